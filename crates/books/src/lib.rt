@@ -1,0 +1,31 @@
+// Rule books: what a reader may ask of one, what may be changed in one, and why a call is refused.
+mod book;
+mod changing;
+mod faults;
+mod refusal;
+
+pub use book::Book;
+pub use changing::ChangingBook;
+pub use faults::BookFault;
+pub use faults::BookFaultDebug;
+pub use faults::BookFaultEq;
+pub use faults::BookFaultFromCommand;
+pub use faults::BookFaultPartialEq;
+pub use faults::Cause;
+pub use faults::CauseDebug;
+pub use faults::CauseEq;
+pub use faults::CausePartialEq;
+pub use faults::CommandFault;
+pub use faults::CommandFaultDebug;
+pub use faults::CommandFaultEq;
+pub use faults::CommandFaultPartialEq;
+pub use refusal::Refusal;
+pub use refusal::RefusalDebug;
+pub use refusal::RefusalEq;
+pub use refusal::RefusalFromBook;
+pub use refusal::RefusalFromEvent;
+pub use refusal::RefusalPartialEq;
+pub use refusal::Told;
+pub use refusal::ToldDebug;
+pub use refusal::ToldEq;
+pub use refusal::ToldPartialEq;
