@@ -17,7 +17,7 @@ use Rattle.std.proofs.shelf.Tests.{cases-lt, cases-eq, cases-bool, both-ways, a
 use Rattle.std.proofs.shelf.Ways.{decides-below-or, same-from-decides}
 use Rattle.states.specs.declared.state.State.{State}
 use Rattle.states.specs.declared.rules.Rules.{Rules}
-use Rattle.states.specs.Sets.{number, has, setOf, same, isEmpty, nothing, size, shares, hasRule, rulesOf}
+use Rattle.states.specs.Sets.{number, has, setOf, same, isEmpty, nothing, size, shares, hasRule, rulesOf, noRule}
 use Rattle.states.specs.Words.{bit, tally, some, Least, Gathers}
 use Rattle.states.proofs.Digits.{bit-or, bit-and, bit-less, bit-ext, bit-above, bit-cut, bit-half, bit-first, bit-lower, bit-upper, bit-zero, bit-single, double-mod, lowest-digit, ones-tally, bit-digitsOf}
 
@@ -262,6 +262,13 @@ same-rules a b h = same-bits a b (bit-ext 64 (a .bits) (b .bits) (a .fits) (b .f
 pub no-rules : (r : Rules) → r .bits ≡ 0 → (n : ℕ) → hasRule r n ≡ false
 unfolding hasRule
 no-rules r e n = ap (λ (x : ℕ). bit x n) e ∙ bit-zero n
+
+pub noRule-decides : (r : Rules) → Decides (noRule r) ((n : ℕ) → hasRule r n ≡ false)
+unfolding noRule hasRule
+noRule-decides r = (
+  λ e n. ap (λ (x : ℕ). bit x n) (eqb-true _ _ e) ∙ bit-zero n,
+  λ h. eq-eqb _ _ (bit-ext 64 (r .bits) 0 (r .fits) (omega arith) (λ n l. h n ∙ sym (bit-zero n))),
+)
 
 pub rules-above : (r : Rules) (n : ℕ) → 64 ≤ n → hasRule r n ≡ false
 unfolding hasRule

@@ -50,3 +50,7 @@ hasRule r n = bit (r .bits) n
 -- the set of the rules that pass f
 unfoldable pub rulesOf : (ℕ → Bool) → Rules
 rulesOf f = record { bits = digitsOf f 64; fits = digitsOf-below f 64 }
+
+-- whether r has no member
+unfoldable pub noRule : Rules → Bool
+noRule r = eqb (r .bits) 0

@@ -4,6 +4,9 @@ ghost use Prim.Native.Nat.{_+_, _*_, _≤_, _<_};
 ghost use Rattle.std.specs.Results.{Cases};
 use crate::symbol::Symbol;
 
+const MACHINES: u32 = 16;
+const KINDS: u32 = 4096;
+
 // A machine from 0 to 15 and a kind from 0 to 4,095.
 #[derive(Clone, Copy, PartialEq, Eq, Debug)]
 pub struct Event {
@@ -25,7 +28,7 @@ impl Event {
                 (λ _. machine ≤ 15 → kind ≤ 4095 → ⊥) ⌝
         }
     {
-        if machine < 16 && kind < 4096 {
+        if machine < MACHINES && kind < KINDS {
             Ok(Event {
                 machine: machine as u16,
                 kind: kind as u16,

@@ -4,7 +4,7 @@ ghost use mathlib.Core.Bool.{false, not, _||_, _&&_};
 ghost use Prim.Native.Nat.{ℕ, _<_};
 ghost use lib.Dec.{eqb, ltb};
 ghost use Rattle.std.specs.Orderings.{Decides};
-ghost use Rattle.states.specs.Sets.{hasRule};
+ghost use Rattle.states.specs.Sets.{hasRule, noRule};
 ghost use Rattle.states.specs.Words.{Popped, tally};
 use crate::rules::Rules;
 
@@ -59,7 +59,8 @@ impl Rules {
     }
 
     pub fn is_empty(self) -> bool
-        ensures { λ r. ⌜ Decides r ((n : ℕ) → hasRule self n ≡ false) ⌝ }
+        ensures value { λ r. ⌜ r ≡ noRule self ⌝ }
+        ensures members { λ r. ⌜ Decides r ((n : ℕ) → hasRule self n ≡ false) ⌝ }
     {
         self.bits == 0
     }

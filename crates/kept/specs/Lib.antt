@@ -1,0 +1,3 @@
+-- What a table of kept steps holds.
+pub mod Steps
+pub mod Tables

@@ -1,0 +1,5 @@
+pub mod Tables
+pub mod Runs
+pub mod Steps
+pub mod Bare
+pub mod Onward
