@@ -18,18 +18,14 @@ pub trait ChangingBook: Book {
     // Puts a rule in force.
     fn add(&mut self, rule: u32, kind: u32, bytes: &[u8]) -> Result<(), BookFault>
         ensures answer { λ r. ⌜ errPart r ≡ refusal (Self·Book .model (now (self .entry)) .meaning) rule kind (now (bytes .entry)) ⌝ }
-        ensures change {
-            λ r. ⌜ Cases r
-                (λ _. Changed (Added rule kind) (Self·Book .model (now (self .entry))) (Self·Book .model (now (self .exit))))
-                (λ _. now (self .exit) ≡ now (self .entry)) ⌝
-        };
+        ensures change { λ r. ⌜ Cases r
+            (λ _. Changed (Added rule kind) (Self·Book .model (now (self .entry))) (Self·Book .model (now (self .exit))))
+            (λ _. now (self .exit) ≡ now (self .entry)) ⌝ };
 
     // Takes a rule out of force.
     fn delete(&mut self, rule: u32) -> Result<(), BookFault>
         ensures answer { λ r. ⌜ errPart r ≡ delete-refusal (Self·Book .model (now (self .entry)) .meaning) rule ⌝ }
-        ensures change {
-            λ r. ⌜ Cases r
-                (λ _. Changed (Deleted rule) (Self·Book .model (now (self .entry))) (Self·Book .model (now (self .exit))))
-                (λ _. now (self .exit) ≡ now (self .entry)) ⌝
-        };
+        ensures change { λ r. ⌜ Cases r
+            (λ _. Changed (Deleted rule) (Self·Book .model (now (self .entry))) (Self·Book .model (now (self .exit))))
+            (λ _. now (self .exit) ≡ now (self .entry)) ⌝ };
 }

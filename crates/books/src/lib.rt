@@ -2,6 +2,7 @@
 mod book;
 mod changing;
 mod faults;
+mod noted;
 mod refusal;
 
 pub use book::Book;
@@ -19,6 +20,7 @@ pub use faults::CommandFault;
 pub use faults::CommandFaultDebug;
 pub use faults::CommandFaultEq;
 pub use faults::CommandFaultPartialEq;
+pub use noted::Noted;
 pub use refusal::Refusal;
 pub use refusal::RefusalDebug;
 pub use refusal::RefusalEq;

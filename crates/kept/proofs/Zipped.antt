@@ -61,7 +61,6 @@ zipped-take (suc k) (c ∷ cs) (s ∷ ss) [] = refl
 zipped-take (suc k) (c ∷ cs) (s ∷ ss) (n ∷ ns) = ap (λ xs. step s c n ∷ xs) (zipped-take k cs ss ns)
 
 module _ (cs : List ℕ) (ss ns : List State) (e : length ss ≡ length cs) (f : length ns ≡ length cs) where
-
   -- ---- what a read of one of the lists says of the step
 
   pub reads-code : (i c : ℕ) → i < length cs → c ≡ getD cs i c → at (zipped cs ss ns) i .code ≡ c

@@ -2,9 +2,9 @@ ghost use mathlib.Core.Path.{_≡_};
 ghost use Rattle.std.specs.Results.{Cases};
 ghost use Rattle.readings.specs.Views.{fresh};
 ghost use Rattle.reader.specs.View.{view};
-use books::Book;
 use crate::reader::NoMemory;
 use crate::reader::Reader;
+use books::Book;
 use kept::Kept;
 use std::alloc::Global;
 

@@ -1,19 +1,15 @@
 ghost use mathlib.Core.List.{map};
 ghost use Rattle.readings.specs.Readings.{Reads, ReadsBare};
 ghost use Rattle.reader.specs.View.{view};
-use books::Book;
 use crate::answer::Answer;
 use crate::reader::Reader;
+use books::Book;
 
 impl<B: Book> Reader<B> {
     // Reads a whole text: the rules that it meets, and how many steps were worked out. Nothing is allocated.
     pub fn read(&mut self, text: &[B::Symbol]) -> Answer
-        ensures reads {
-            λ r. ⌜ Reads (map (Symbol·Symbol .code) (now (text .entry))) (r .rules) (r .count) (view model (now (self .entry))) (view model (now (self .exit))) ⌝
-        }
-        ensures bare {
-            λ r. ⌜ ReadsBare (map (Symbol·Symbol .code) (now (text .entry))) (r .rules) (r .count) (view model (now (self .entry))) (view model (now (self .exit))) ⌝
-        }
+        ensures reads { λ r. ⌜ Reads (map (Symbol·Symbol .code) (now (text .entry))) (r .rules) (r .count) (view model (now (self .entry))) (view model (now (self .exit))) ⌝ }
+        ensures bare { λ r. ⌜ ReadsBare (map (Symbol·Symbol .code) (now (text .entry))) (r .rules) (r .count) (view model (now (self .entry))) (view model (now (self .exit))) ⌝ }
     {
         let mut state = self.book.start();
         let mut count: usize = 0;

@@ -4,8 +4,8 @@ ghost use mathlib.Core.List.{[], _∷_};
 ghost use Rattle.states.specs.Sets.{isEmpty};
 ghost use Rattle.readings.specs.Runs.{goes, Works};
 ghost use Rattle.reader.specs.View.{view};
-use books::Book;
 use crate::reader::Reader;
+use books::Book;
 use states::State;
 use symbols::Symbol;
 
@@ -22,9 +22,7 @@ impl<B: Book> Reader<B> {
     pub(crate) fn step(&mut self, state: State, symbol: B::Symbol) -> Taken
         requires { ⌜ isEmpty state ≡ false ⌝ }
         ensures state { λ r. ⌜ r .state ≡ goes (view model (now (self .entry))) state (Symbol·Symbol .code symbol) ⌝ }
-        ensures works {
-            λ r. ⌜ Works ((state, Symbol·Symbol .code symbol) ∷ []) (cond (r .worked) 1 0) (view model (now (self .entry))) (view model (now (self .exit))) ⌝
-        }
+        ensures works { λ r. ⌜ Works ((state, Symbol·Symbol .code symbol) ∷ []) (cond (r .worked) 1 0) (view model (now (self .entry))) (view model (now (self .exit))) ⌝ }
     {
         let code = symbol.code();
         if let Some(next) = self.kept.find(state, code) {

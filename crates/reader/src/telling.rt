@@ -1,8 +1,8 @@
 // What a reader tells of itself. None of these calls changes it.
 ghost use mathlib.Core.Path.{_≡_};
 ghost use Rattle.reader.specs.View.{view};
-use books::Book;
 use crate::reader::Reader;
+use books::Book;
 
 impl<B: Book> Reader<B> {
     // How many steps were worked out since the reader was made, up to 4,294,967,295.

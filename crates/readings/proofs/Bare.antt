@@ -58,7 +58,7 @@ found-right m [] s c a = refl
 found-right m (k ∷ ks) s c a = first (same (k .state) s && eqb (k .code) c) refl (found-right m ks s c (a .1))
   where
     first : (b : Bool) → (same (k .state) s && eqb (k .code) c) ≡ b → valueOr (found ks s c) (m .next s c) ≡ m .next s c
-      → valueOr (cond b (Some (k .next)) (found ks s c)) (m .next s c) ≡ m .next s c
+        → valueOr (cond b (Some (k .next)) (found ks s c)) (m .next s c) ≡ m .next s c
     first true e more =
         let h = and-parts (same (k .state) s) (eqb (k .code) c) e in
         a .0 .next ∙ ap (λ (t : State). m .next t (k .code)) (same-true (k .state) s (h .0)) ∙ ap (m .next s) (eqb-true (k .code) c (h .1))
@@ -70,8 +70,8 @@ sound-goes v l a = λ i s c. at s c i
   where
     at : (s : State) (c : ℕ) → goes v s c ≡ v .book .meaning .next s c
     at s c = cond-both (isEmpty s) s _ (λ t. t ≡ v .book .meaning .next s c)
-      (λ e. let z = empty-is s e in z ∙ sym (next-nothing (v .book .meaning) l c) ∙ ap (λ (t : State). v .book .meaning .next t c) (sym z))
-      (λ e. found-right (v .book .meaning) (v .kept) s c a)
+        (λ e. let z = empty-is s e in z ∙ sym (next-nothing (v .book .meaning) l c) ∙ ap (λ (t : State). v .book .meaning .next t c) (sym z))
+        (λ e. found-right (v .book .meaning) (v .kept) s c a)
 
 -- ---- what is kept on the way
 
@@ -94,10 +94,10 @@ pub works-sound : {n : ℕ} {v w : View} (s : State) (cs : List ℕ) → Lawful 
 works-sound {n} {v} {w} s cs l a b x =
     subst (λ (m : Meaning). All (Right m) (w .kept)) (sym (works-meaning x))
     (subst (All (Right (v .book .meaning))) (sym (x .kept))
-      (keepAll-right (v .book .meaning) (v .kept) (met (v .book .meaning .next) s cs) (met-within (v .book .meaning) l s cs b) a))
+    (keepAll-right (v .book .meaning) (v .kept) (met (v .book .meaning .next) s cs) (met-within (v .book .meaning) l s cs b) a))
 
 pub reads-bare : {text : List ℕ} {rules : Rules} {n : ℕ} {v w : View} → Lawful (v .book .meaning) → Reads text rules n v w → ReadsBare text rules n v w
 reads-bare {text} {rules} {n} {v} {w} l r a =
     let b : ReadsBy (v .book .meaning .next) text rules n v w =
-      subst (λ (f : State → ℕ → State). ReadsBy f text rules n v w) (sound-goes v l a) r in
+    subst (λ (f : State → ℕ → State). ReadsBy f text rules n v w) (sound-goes v l a) r in
     (b, works-sound (v .book .meaning .start) text l a (l .starts) (b .works))

@@ -36,7 +36,7 @@ onward-step {v₀} {v} {w} {s₀} {s} {t} {text} {rest} {c} o e x g =
       passed = o .passed ++ (s, c) ∷ [];
       works = works-then (o .works) x;
       pairs = o .pairs ∙ ap (λ (ps : List Pair). o .passed ++ ps) (cond-false (isEmpty s) [] _ e ∙ ap (λ (q : State). (s, c) ∷ met (goes v₀) q rest) to)
-        ∙ sym (append-assoc (o .passed) ((s, c) ∷ []) (met (goes v₀) t rest));
+          ∙ sym (append-assoc (o .passed) ((s, c) ∷ []) (met (goes v₀) t rest));
       state = o .state ∙ ap (λ (q : State). after (goes v₀) q rest) to;
     }
 

@@ -19,9 +19,9 @@ worked-append m ks [] qs = refl
 worked-append m ks (p ∷ ps) qs = first (isKept ks p) refl (λ t. worked-append m t ps qs)
   where
     first : (b : Bool) → isKept ks p ≡ b
-      → ((t : List Step) → worked m t (ps ++ qs) ≡ worked m t ps ++ worked m (keepAll m t ps) qs)
-      → cond b (worked m ks (ps ++ qs)) (p ∷ worked m (keep ks (meant m p)) (ps ++ qs))
-      ≡ cond b (worked m ks ps) (p ∷ worked m (keep ks (meant m p)) ps) ++ worked m (keepAll m (keep ks (meant m p)) ps) qs
+        → ((t : List Step) → worked m t (ps ++ qs) ≡ worked m t ps ++ worked m (keepAll m t ps) qs)
+        → cond b (worked m ks (ps ++ qs)) (p ∷ worked m (keep ks (meant m p)) (ps ++ qs))
+        ≡ cond b (worked m ks ps) (p ∷ worked m (keep ks (meant m p)) ps) ++ worked m (keepAll m (keep ks (meant m p)) ps) qs
     first true e more =
         more ks ∙ ap (λ (t : List Step). worked m ks ps ++ worked m (keepAll m t ps) qs) (sym (keep-kept m ks p e))
     first false e more = ap (λ (t : List Pair). p ∷ t) (more (keep ks (meant m p)))
@@ -48,15 +48,15 @@ pub works-then : {ps qs : List Pair} {n k : ℕ} {u v w : View} → Works ps n u
 works-then {ps} {qs} {n} {k} {u} {v} {w} x y =
     let m = u .book .meaning in
     let same : worked (v .book .meaning) (v .kept) qs ≡ worked m (keepAll m (u .kept) ps) qs =
-      ap₂ (λ (a : Meaning) (t : List Step). worked a t qs) (works-meaning x) (x .kept) in
+    ap₂ (λ (a : Meaning) (t : List Step). worked a t qs) (works-meaning x) (x .kept) in
     let parts = worked-append m (u .kept) ps qs in
     record {
       count = ap₂ (λ (a b : ℕ). a + b) (x .count) (y .count ∙ ap length same)
-        ∙ sym (ap length parts ∙ length-append (worked m (u .kept) ps) _);
+          ∙ sym (ap length parts ∙ length-append (worked m (u .kept) ps) _);
       book = y .book ∙ ap₂ askedAll same (x .book)
-        ∙ sym (ap (λ (t : List Pair). askedAll t (u .book)) parts ∙ askedAll-append (worked m (u .kept) ps) _ (u .book));
+          ∙ sym (ap (λ (t : List Pair). askedAll t (u .book)) parts ∙ askedAll-append (worked m (u .kept) ps) _ (u .book));
       kept = y .kept ∙ ap₂ (λ (a : Meaning) (t : List Step). keepAll a t qs) (works-meaning x) (x .kept)
-        ∙ sym (keepAll-append m (u .kept) ps qs);
+          ∙ sym (keepAll-append m (u .kept) ps qs);
       edition = y .edition ∙ x .edition;
       tally = y .tally ∙ ap (λ (t : ℕ). min (t + k) 4294967295) (x .tally) ∙ twice (u .tally);
     }

@@ -32,7 +32,7 @@ push-next m [] p s c = same-next m p s c (same (p .0) s && eqb (p .1) c) refl
 push-next m (k ∷ ks) p s c = first (same (k .state) s && eqb (k .code) c) (push-next m ks p s c)
   where
     first : (b : Bool) → valueOr (found (ks ++ meant m p ∷ []) s c) (m .next s c) ≡ valueOr (found ks s c) (m .next s c)
-      → valueOr (cond b (Some (k .next)) (found (ks ++ meant m p ∷ []) s c)) (m .next s c) ≡ valueOr (cond b (Some (k .next)) (found ks s c)) (m .next s c)
+        → valueOr (cond b (Some (k .next)) (found (ks ++ meant m p ∷ []) s c)) (m .next s c) ≡ valueOr (cond b (Some (k .next)) (found ks s c)) (m .next s c)
     first true more = refl
     first false more = more
 

@@ -5,6 +5,7 @@ ghost use Rattle.std.specs.Results.{Cases};
 use crate::symbol::Symbol;
 
 const MACHINES: u32 = 16;
+
 const KINDS: u32 = 4096;
 
 // A machine from 0 to 15 and a kind from 0 to 4,095.
@@ -22,11 +23,9 @@ pub struct OutOfRange;
 impl Event {
     // The event of a machine and a kind, refused exactly where one of them is out of range.
     pub fn new(machine: u32, kind: u32) -> Result<Event, OutOfRange>
-        ensures {
-            λ r. ⌜ Cases r
-                (λ e. (machine ≤ 15) × (kind ≤ 4095) × (e .machine ≡ machine) × (e .kind ≡ kind))
-                (λ _. machine ≤ 15 → kind ≤ 4095 → ⊥) ⌝
-        }
+        ensures { λ r. ⌜ Cases r
+            (λ e. (machine ≤ 15) × (kind ≤ 4095) × (e .machine ≡ machine) × (e .kind ≡ kind))
+            (λ _. machine ≤ 15 → kind ≤ 4095 → ⊥) ⌝ }
     {
         if machine < MACHINES && kind < KINDS {
             Ok(Event {

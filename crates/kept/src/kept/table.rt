@@ -67,12 +67,22 @@ impl Kept {
     pub fn drop_touching(&mut self, positions: State)
         ensures { λ _. ⌜ steps (now (self .exit)) ≡ kept-by (λ x. not (shares (x .state) positions)) (steps (now (self .entry))) ⌝ }
     {
-        drop_rows(&mut self.codes, &mut self.states, &mut self.nexts, positions);
+        drop_rows(
+            &mut self.codes,
+            &mut self.states,
+            &mut self.nexts,
+            positions,
+        );
     }
 }
 
 // The work of `drop_touching`, on vectors of their own: while steps move down, the same step may stand twice.
-fn drop_rows(codes: &mut Vec<u16>, states: &mut Vec<State>, nexts: &mut Vec<State>, positions: State)
+fn drop_rows(
+    codes: &mut Vec<u16>,
+    states: &mut Vec<State>,
+    nexts: &mut Vec<State>,
+    positions: State,
+)
     requires states { ⌜ vec-len (now states) ≡ vec-len (now codes) ⌝ }
     requires nexts { ⌜ vec-len (now nexts) ≡ vec-len (now codes) ⌝ }
     ensures level { λ _. ⌜ (vec-len (now (states .exit)) ≡ vec-len (now (codes .exit))) × (vec-len (now (nexts .exit)) ≡ vec-len (now (codes .exit))) ⌝ }

@@ -27,20 +27,20 @@ loop-symbol-again g c =
     let n = c .loop-symbol .count in
     let t = c .step-taken .result in
     let more = onward-more code text (c .symbol-item .result) (c .loop-symbol-test .taken) (c .symbol-item .is) (c .loop-symbol .inv .0)
-      (sym (c .if-is-empty .ensures tt .value)) (c .step-taken .ensures .works) (c .step-taken .ensures .state) in
+    (sym (c .if-is-empty .ensures tt .value)) (c .step-taken .ensures .works) (c .step-taken .ensures .state) in
     let count : (n + cond (t .worked) 1 0 ≡ c .if-taken .count) × (c .if-taken .count ≤ i + 1) =
-      elim (c .if-taken .came) [
-        | then-taken w ↦ (ap (λ b. n + cond b 1 0) (w .if-taken .taken) ∙ sym (w .count-is), omega (arith, w .count-is))
-        | else-taken w ↦ (ap (λ b. n + cond b 1 0) (w .if-taken .left) ∙ (omega (arith, w .count-is)), omega (arith, w .count-is))
-      ] in
+    elim (c .if-taken .came) [
+      | then-taken w ↦ (ap (λ b. n + cond b 1 0) (w .if-taken .taken) ∙ sym (w .count-is), omega (arith, w .count-is))
+      | else-taken w ↦ (ap (λ b. n + cond b 1 0) (w .if-taken .left) ∙ (omega (arith, w .count-is)), omega (arith, w .count-is))
+    ] in
     (subst (Onward (v (c .args .self .now)) (c .start-state .result) (map code text) _ _ _) (count .0) more, count .1)
 
 pub returns : need.returns
 returns g c =
     let code = g .Symbol·Symbol .code in
     let reads : Reads (map code (c .args .text .now)) (c .ended .result) (c .loop-symbol .count) (view (g .B·Book .model) (c .args .self .now)) (view (g .B·Book .model) (c .loop-symbol .self)) =
-      elim (c .loop-symbol-test .came) [
-        | else-loop-symbol-test w ↦ onward-ends code (c .args .text .now) (w .loop-symbol-test .left) (c .loop-symbol .inv .0) (c .start-state .ensures) (c .ended .ensures)
-        | then-loop-symbol-test·then-is-empty w ↦ onward-stops (c .loop-symbol .inv .0) (sym (w .if-is-empty .ensures tt .value)) (c .start-state .ensures) (c .ended .ensures)
-      ] in
+    elim (c .loop-symbol-test .came) [
+      | else-loop-symbol-test w ↦ onward-ends code (c .args .text .now) (w .loop-symbol-test .left) (c .loop-symbol .inv .0) (c .start-state .ensures) (c .ended .ensures)
+      | then-loop-symbol-test·then-is-empty w ↦ onward-stops (c .loop-symbol .inv .0) (sym (w .if-is-empty .ensures tt .value)) (c .start-state .ensures) (c .ended .ensures)
+    ] in
     record { reads = reads; bare = reads-bare (g .B·Book·met .lawful _) reads }

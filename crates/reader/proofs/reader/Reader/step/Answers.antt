@@ -12,7 +12,7 @@ returns-in-Some g c =
     let v = view (g .B·Book .model) (c .args .self .now) in
     let code = g .Symbol·Symbol .code (c .args .symbol) in
     let e : found (v .kept) (c .args .state) code ≡ Some (c .in-Some .next) =
-      ap (found (v .kept) (c .args .state)) (sym (c .code-code .ensures .value)) ∙ sym (c .find .ensures) ∙ c .in-Some .is in
+    ap (found (v .kept) (c .args .state)) (sym (c .code-code .ensures .value)) ∙ sym (c .find .ensures) ∙ c .in-Some .is in
     record {
       state = kept-goes v (c .args .state) code (c .pre) _ e;
       works = kept-works v (c .args .state) code _ (c .args .self .now .fits) e;
@@ -24,10 +24,10 @@ returns g c =
     let s = c .args .state in
     let code = g .Symbol·Symbol .code (c .args .symbol) in
     let e : found (v .kept) s code ≡ None =
-      ap (found (v .kept) s) (sym (c .code-code .ensures .value)) ∙ sym (c .find .ensures) ∙ c .in-rest .is in
+    ap (found (v .kept) s) (sym (c .code-code .ensures .value)) ∙ sym (c .find .ensures) ∙ c .in-rest .is in
     record {
       state = c .next-next .ensures .value ∙ asked-goes v s code (c .pre) e;
       works = asked-works v _ s code e (c .next-next .ensures .after)
-        (c .keep .ensures ∙ ap₂ (λ (n : ℕ) (t : State). keep (v .kept) (step s n t)) (c .code-code .ensures .value) (c .next-next .ensures .value))
-        refl (c .saturating-add-self .ensures);
+          (c .keep .ensures ∙ ap₂ (λ (n : ℕ) (t : State). keep (v .kept) (step s n t)) (c .code-code .ensures .value) (c .next-next .ensures .value))
+          refl (c .saturating-add-self .ensures);
     }
