@@ -1,7 +1,7 @@
 -- Which step is found in a list, and lists in which no state and code come twice. Assumes nothing.
 use mathlib.Core.Path.{_≡_, refl, sym, ap, _∙_, subst}
 use mathlib.Core.Logic.{inl, inr}
-use mathlib.Core.Bool.{Bool, true, false, not, cond, _&&_}
+use mathlib.Core.Bool.{Bool, true, false, not, cond}
 use mathlib.Core.List.{List, [], _∷_, _++_}
 use Prim.Native.Nat.{ℕ, _+_, _<_}
 use lib.Dec.{eqb}
@@ -12,7 +12,7 @@ use Rattle.std.specs.declared.option.Option.the-variants.{Some, None}
 use Rattle.std.specs.shelf.Lists.{All, kept-by}
 use Rattle.std.proofs.shelf.Elements.{all-weaker}
 use Rattle.std.proofs.shelf.Lists.{at-drop-more}
-use Rattle.std.proofs.shelf.Tests.{both-ways, cases-bool, and-parts, and-from, not-true, cond-true, cond-false, eqb-true, eq-eqb}
+use Rattle.std.proofs.shelf.Tests.{both-ways, cases-bool, and-parts, and-from, and-left, and-right, not-true, cond-true, cond-false, eqb-true, eq-eqb, ne-eqb}
 use Rattle.states.specs.declared.state.State.{State}
 use Rattle.states.specs.Sets.{same}
 use Rattle.states.proofs.Members.{same-true, same-self}
@@ -33,6 +33,16 @@ pub from-true : (k : Step) (s : State) (c : ℕ) → from k s c ≡ true → (k 
 from-true k s c e =
     let h = and-parts (same (k .state) s) (eqb (k .code) c) e in
     (same-true (k .state) s (h .0), eqb-true (k .code) c (h .1))
+
+-- the same by parts, of which x and y were read
+pub from-both : (k : Step) (s x : State) (c y : ℕ) → k .state ≡ x → true ≡ same x s → k .code ≡ y → y ≡ c → from k s c ≡ true
+from-both k s x c y e f g h = and-from _ _ (ap (λ (z : State). same z s) e ∙ sym f) (eq-eqb (k .code) c (g ∙ h))
+
+pub from-other-state : (k : Step) (s x : State) (c : ℕ) → k .state ≡ x → false ≡ same x s → from k s c ≡ false
+from-other-state k s x c e f = and-left _ (eqb (k .code) c) (ap (λ (z : State). same z s) e ∙ sym f)
+
+pub from-other-code : (k : Step) (s : State) (c y : ℕ) → k .code ≡ y → (y ≡ c → ⊥) → from k s c ≡ false
+from-other-code k s c y e n = and-right (same (k .state) s) _ (ne-eqb (k .code) c (λ f. n (sym e ∙ f)))
 
 pub from-sym : (j k : Step) → from k (j .state) (j .code) ≡ true → from j (k .state) (k .code) ≡ true
 from-sym j k e =
@@ -67,12 +77,12 @@ found-drop-past ks i d s c h e = at-drop-more (λ js. found js s c) ks i d h ∙
 pub found-append : (ks js : List Step) (s : State) (c : ℕ) → found (ks ++ js) s c ≡ orOther (found ks s c) (found js s c)
 unfolding found
 found-append [] js s c = refl
-found-append (k ∷ ks) js s c = at (from k s c) (found-append ks js s c)
+found-append (k ∷ ks) js s c = by-test (from k s c) (found-append ks js s c)
   where
-    at : (b : Bool) → found (ks ++ js) s c ≡ orOther (found ks s c) (found js s c)
+    by-test : (b : Bool) → found (ks ++ js) s c ≡ orOther (found ks s c) (found js s c)
         → cond b (Some (k .next)) (found (ks ++ js) s c) ≡ orOther (cond b (Some (k .next)) (found ks s c)) (found js s c)
-    at true e = refl
-    at false e = e
+    by-test true e = refl
+    by-test false e = e
 
 pub found-append-some : (ks js : List Step) (s : State) (c : ℕ) (n : State) → found ks s c ≡ Some n → found (ks ++ js) s c ≡ Some n
 found-append-some ks js s c n e = found-append ks js s c ∙ ap (λ (o : Option State). orOther o (found js s c)) e
@@ -147,22 +157,22 @@ pub found-kept-by-none : (q : Step → Bool) (ks : List Step) (s : State) (c : �
 found-kept-by-none q [] s c e = e
 found-kept-by-none q (k ∷ ks) s c e =
     let h = first-apart k ks s c e in
-    at (q k) (h .0) (found-kept-by-none q ks s c (h .1))
+    by-test (q k) (h .0) (found-kept-by-none q ks s c (h .1))
   where
-    at : (b : Bool) → from k s c ≡ false → found (kept-by q ks) s c ≡ None → found (cond b (k ∷ kept-by q ks) (kept-by q ks)) s c ≡ None
-    at true f r = found-past k (kept-by q ks) s c f ∙ r
-    at false f r = r
+    by-test : (b : Bool) → from k s c ≡ false → found (kept-by q ks) s c ≡ None → found (cond b (k ∷ kept-by q ks) (kept-by q ks)) s c ≡ None
+    by-test true f r = found-past k (kept-by q ks) s c f ∙ r
+    by-test false f r = r
 
 pub distinct-kept-by : (q : Step → Bool) (ks : List Step) → distinct ks ≡ true → distinct (kept-by q ks) ≡ true
 distinct-kept-by q [] d = d
 distinct-kept-by q (k ∷ ks) d =
     let h = distinct-parts k ks d in
-    at (q k) (found-kept-by-none q ks (k .state) (k .code) (h .0)) (distinct-kept-by q ks (h .1))
+    by-test (q k) (found-kept-by-none q ks (k .state) (k .code) (h .0)) (distinct-kept-by q ks (h .1))
   where
-    at : (b : Bool) → found (kept-by q ks) (k .state) (k .code) ≡ None → distinct (kept-by q ks) ≡ true
+    by-test : (b : Bool) → found (kept-by q ks) (k .state) (k .code) ≡ None → distinct (kept-by q ks) ≡ true
         → distinct (cond b (k ∷ kept-by q ks) (kept-by q ks)) ≡ true
-    at true e r = distinct-cons k (kept-by q ks) e r
-    at false e r = r
+    by-test true e r = distinct-cons k (kept-by q ks) e r
+    by-test false e r = r
 
 -- by a test of the state: from a state that passes, the same is found
 pub found-kept-by : (q : State → Bool) (ks : List Step) (s : State) (c : ℕ) → q s ≡ true → found (kept-by (λ x. q (x .state)) ks) s c ≡ found ks s c
@@ -170,24 +180,24 @@ found-kept-by q [] s c p = refl
 found-kept-by q (k ∷ ks) s c p = elim (cases-bool (from k s c)) [
   | inl h ↦ ap (λ (b : Bool). found (cond b (k ∷ kept-by (λ x. q (x .state)) ks) (kept-by (λ x. q (x .state)) ks)) s c) (ap q (from-true k s c h .0) ∙ p)
       ∙ found-here k (kept-by (λ x. q (x .state)) ks) s c h ∙ sym (found-here k ks s c h)
-  | inr h ↦ at (q (k .state)) h (found-kept-by q ks s c p) ∙ sym (found-past k ks s c h)
+  | inr h ↦ by-test (q (k .state)) h (found-kept-by q ks s c p) ∙ sym (found-past k ks s c h)
 ]
   where
-    at : (b : Bool) → from k s c ≡ false → found (kept-by (λ x. q (x .state)) ks) s c ≡ found ks s c
+    by-test : (b : Bool) → from k s c ≡ false → found (kept-by (λ x. q (x .state)) ks) s c ≡ found ks s c
         → found (cond b (k ∷ kept-by (λ x. q (x .state)) ks) (kept-by (λ x. q (x .state)) ks)) s c ≡ found ks s c
-    at true f r = found-past k (kept-by (λ x. q (x .state)) ks) s c f ∙ r
-    at false f r = r
+    by-test true f r = found-past k (kept-by (λ x. q (x .state)) ks) s c f ∙ r
+    by-test false f r = r
 
 -- and from one that does not, nothing
 pub found-dropped : (q : State → Bool) (ks : List Step) (s : State) (c : ℕ) → q s ≡ false → found (kept-by (λ x. q (x .state)) ks) s c ≡ None
 unfolding found
 found-dropped q [] s c p = refl
-found-dropped q (k ∷ ks) s c p = at (q (k .state)) refl (found-dropped q ks s c p)
+found-dropped q (k ∷ ks) s c p = by-test (q (k .state)) refl (found-dropped q ks s c p)
   where
-    at : (b : Bool) → q (k .state) ≡ b → found (kept-by (λ x. q (x .state)) ks) s c ≡ None
+    by-test : (b : Bool) → q (k .state) ≡ b → found (kept-by (λ x. q (x .state)) ks) s c ≡ None
         → found (cond b (k ∷ kept-by (λ x. q (x .state)) ks) (kept-by (λ x. q (x .state)) ks)) s c ≡ None
-    at true f r = elim (cases-bool (from k s c)) [
+    by-test true f r = elim (cases-bool (from k s c)) [
       | inl h ↦ absurd (both-ways _ p (ap q (sym (from-true k s c h .0)) ∙ f))
       | inr h ↦ found-past k (kept-by (λ x. q (x .state)) ks) s c h ∙ r
     ]
-    at false f r = r
+    by-test false f r = r

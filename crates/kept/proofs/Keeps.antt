@@ -1,14 +1,13 @@
 -- A list of steps with one more kept. Assumes nothing.
 use mathlib.Core.Path.{_≡_, refl, sym, ap, _∙_, subst}
 use mathlib.Core.Logic.{_⊎_, inl, inr}
-use mathlib.Core.Bool.{Bool, true, false, cond, _||_}
+use mathlib.Core.Bool.{true, false}
 use mathlib.Core.List.{List, [], _∷_, _++_}
 use Prim.Native.Nat.{ℕ, _≤_, _<_}
 use native.Mathlib.Omega.{arith}
 use lib.Dec.{leb}
 use lib.ListN.{length}
 use Rattle.std.specs.Options.{isSome}
-use Rattle.std.specs.declared.option.Option.{Option}
 use Rattle.std.specs.declared.option.Option.the-variants.{Some, None}
 use Rattle.std.specs.shelf.Lists.{All}
 use Rattle.std.proofs.shelf.Elements.{all-push}
@@ -16,7 +15,7 @@ use Rattle.std.proofs.shelf.Lists.{length-push}
 use Rattle.std.proofs.shelf.Tests.{both-ways, cases-bool, cases-lt, or-left, or-right, or-from, cond-true, cond-false, le-leb, lt-leb}
 use Rattle.states.specs.declared.state.State.{State}
 use Rattle.kept.specs.Steps.{Step, from, found, distinct, most, keep}
-use Rattle.kept.proofs.Found.{none-from-isSome, from-self, found-here, found-past, found-append-some, found-append-none, found-push-other, distinct-push}
+use Rattle.kept.proofs.Found.{none-from-isSome, from-self, found-here, found-append-some, found-append-none, found-push-other, distinct-push}
 
 -- ---- the three cases
 

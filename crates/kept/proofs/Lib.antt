@@ -1,4 +1,4 @@
 pub mod Found
 pub mod Keeps
-pub mod Zipped
-pub mod Whole
+mod Zipped
+pub mod Tables

@@ -1,15 +1,17 @@
 -- Steps whose parts stand in three lists of one length. Assumes nothing.
 use mathlib.Core.Path.{_≡_, refl, sym, ap, _∙_, subst}
-use mathlib.Core.Bool.{Bool, true, false}
+use mathlib.Core.Bool.{Bool, true, false, not}
 use mathlib.Core.List.{List, [], _∷_, _++_}
-use Prim.Native.Nat.{ℕ, zero, suc, _+_, _<_}
+use Prim.Native.Nat.{ℕ, zero, suc, _+_, _<_, _≤_}
 use native.Mathlib.Omega.{arith}
 use lib.ListN.{length, getD, set, take}
 use Rattle.states.specs.declared.state.State.{State}
 use Rattle.states.specs.Sets.{nothing}
+use Rattle.std.specs.shelf.Lists.{kept-by}
 use Rattle.std.proofs.shelf.Lists.{getD-read, getD-default}
-use Rattle.std.proofs.shelf.Filters.{Keeping, keeping-more-set, keeping-more-no}
-use Rattle.kept.specs.Steps.{Step, step, zipped}
+use Rattle.std.proofs.shelf.Filters.{length-kept-by-both, Keeping, keeping-more-set, keeping-more-no}
+use Rattle.kept.specs.Steps.{Step, step, distinct, zipped}
+use Rattle.kept.proofs.Found.{distinct-kept-by}
 
 -- step i of xs
 abbrev pub at : List Step → ℕ → Step
@@ -59,6 +61,17 @@ zipped-take (suc k) [] ss ns = refl
 zipped-take (suc k) (c ∷ cs) [] ns = refl
 zipped-take (suc k) (c ∷ cs) (s ∷ ss) [] = refl
 zipped-take (suc k) (c ∷ cs) (s ∷ ss) (n ∷ ns) = ap (λ xs. step s c n ∷ xs) (zipped-take k cs ss ns)
+
+-- ---- some of the steps of a list
+
+pub length-some : (cs : List ℕ) (ss ns : List State) (q : Step → Bool) (xs : List Step) → length ss ≡ length cs → length ns ≡ length cs
+    → zipped cs ss ns ≡ kept-by q xs → length cs ≤ length xs
+length-some cs ss ns q xs e f h =
+    omega (arith, length-zipped cs ss ns e f, ap length h, length-kept-by-both q (λ x. not (q x)) (λ _. refl) xs)
+
+pub distinct-some : (cs : List ℕ) (ss ns : List State) (q : Step → Bool) (xs : List Step) → zipped cs ss ns ≡ kept-by q xs
+    → distinct xs ≡ true → distinct (zipped cs ss ns) ≡ true
+distinct-some cs ss ns q xs h d = ap distinct h ∙ distinct-kept-by q xs d
 
 module _ (cs : List ℕ) (ss ns : List State) (e : length ss ≡ length cs) (f : length ns ≡ length cs) where
   -- ---- what a read of one of the lists says of the step

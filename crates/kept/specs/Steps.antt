@@ -37,7 +37,7 @@ distinct (k ∷ ks) = not (isSome (found ks (k .state) (k .code))) && distinct k
 abbrev pub most : ℕ
 most = 512
 
--- k goes to the end of ks, unless a step from its state by its code is there already, or no more are kept
+-- k goes to the end of ks, unless a step from its state by its code is there already, or ks is full
 unfoldable pub keep : List Step → Step → List Step
 keep ks k = cond (isSome (found ks (k .state) (k .code)) || leb most (length ks)) ks (ks ++ k ∷ [])
 

@@ -8,7 +8,10 @@ use states::State;
 
 pub(crate) mod table;
 
-// At most 512 steps, no two from the same state by the same code, in the order in which they were kept.
+// How many steps are kept at most.
+const LIMIT: usize = 512;
+
+// At most `LIMIT` steps, no two from the same state by the same code, in the order in which they were kept.
 // Step i leads from `states[i]` by `codes[i]` to `nexts[i]`; the codes stand apart, to be compared first.
 #[derive(Drop)]
 pub struct Kept {

@@ -1,1 +1,5 @@
 pub mod View
+pub mod Seen
+pub mod Answers
+pub mod Cursors
+pub mod Replays

@@ -10,6 +10,7 @@ pub struct Reader<B: Book> {
     pub(crate) edition: u32,
     pub(crate) tally: u32,
     ghost fits: { tally < 2 ^ 32 },
+    ghost editions: { edition < 2 ^ 32 },
 }
 
 // There is no memory for a reader. The book is handed back.

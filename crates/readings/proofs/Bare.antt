@@ -1,54 +1,25 @@
 -- Over a sound reader a reading goes where the book says, and the reader stays sound.
 use mathlib.Core.Path.{_≡_, refl, sym, ap, _∙_, subst}
 use mathlib.Core.Bool.{Bool, true, false, cond, _&&_}
-use mathlib.Core.Logic.{inl, inr}
-use mathlib.Core.List.{List, [], _∷_, _++_}
+use mathlib.Core.List.{List, [], _∷_}
 use Prim.Native.Nat.{ℕ}
 use lib.Dec.{eqb}
-use Rattle.std.specs.Options.{isSome, valueOr}
-use Rattle.std.specs.declared.option.Option.{Option}
-use Rattle.std.specs.declared.option.Option.the-variants.{Some, None}
+use Rattle.std.specs.Options.{valueOr}
+use Rattle.std.specs.declared.option.Option.the-variants.{Some}
 use Rattle.std.specs.shelf.Lists.{All}
 use Rattle.std.proofs.shelf.Elements.{all-push}
-use Rattle.std.proofs.shelf.Tests.{and-parts, eqb-true, eq-eqb, cond-both, cases-bool, both-ways}
+use Rattle.std.proofs.shelf.Tests.{and-parts, eqb-true, cond-both}
 use Rattle.states.specs.declared.state.State.{State}
-use Rattle.states.specs.declared.rules.Rules.{Rules}
-use Rattle.states.specs.Sets.{has, same, isEmpty, nothing}
-use Rattle.states.specs.Words.{some}
-use Rattle.states.proofs.Members.{same-true, empty-is, no-members, has-nothing, some-member}
-use Rattle.books.specs.Meaning.{Meaning, Lawful, Within, is, touches}
-use Rattle.books.specs.Texts.{after}
+use Rattle.states.specs.Sets.{same, isEmpty}
+use Rattle.states.proofs.Members.{same-true, empty-is}
+use Rattle.books.specs.Meaning.{Meaning, Lawful, Within}
 use Rattle.kept.specs.Steps.{Step, found, keep}
 use Rattle.readings.specs.Views.{View, Right, Sound}
 use Rattle.readings.specs.Runs.{Pair, goes, met, meant, keepAll, Works}
-use Rattle.readings.specs.Readings.{ReadsBy, Reads, ReadsBare}
+use Rattle.readings.specs.Readings.{Reading, Told, ReadsBy, Reads, from, codes}
+use Rattle.readings.proofs.Positions.{next-nothing}
 use Rattle.readings.proofs.Tables.{keep-both}
 use Rattle.readings.proofs.Runs.{works-meaning}
-
--- ---- from the empty state a book leads nowhere
-
-pub touches-nothing : (m : Meaning) (r : ℕ) → touches m r nothing ≡ false
-unfolding touches
-touches-nothing m r = elim (cases-bool (some (λ p. has nothing p && is (m .owner p) r) 256)) [
-  | inl e ↦ (let w = some-member nothing (λ p. is (m .owner p) r) .0 e in absurd (both-ways _ (has-nothing (w .0)) (w .1)))
-  | inr e ↦ e
-]
-
-owner-of : (o : Option ℕ) → isSome o ≡ true → (r : ℕ) × (is o r ≡ true)
-owner-of None e = absurd (both-ways false refl e)
-owner-of (Some r) e = (r, eq-eqb r r refl)
-
--- a state with live positions only that touches no rule is empty
-pub untouched : (m : Meaning) (s : State) → Within m s → ((r : ℕ) → touches m r s ≡ false) → s ≡ nothing
-unfolding touches
-untouched m s live none = no-members s (λ p. elim (cases-bool (has s p)) [
-  | inl h ↦ (let o = owner-of (m .owner p) (live p h) in
-      absurd (both-ways _ (none (o .0)) (some-member s (λ q. is (m .owner q) (o .0)) .1 (p, h, o .1))))
-  | inr h ↦ h
-])
-
-pub next-nothing : (m : Meaning) → Lawful m → (c : ℕ) → m .next nothing c ≡ nothing
-next-nothing m l c = untouched m (m .next nothing c) (l .steps nothing c) (λ r. l .apart r nothing c (touches-nothing m r))
 
 -- ---- kept steps that are the book's
 
@@ -76,7 +47,7 @@ sound-goes v l a = λ i s c. at s c i
 -- ---- what is kept on the way
 
 -- the pairs that are met have live positions only
-met-within : (m : Meaning) → Lawful m → (s : State) (cs : List ℕ) → Within m s → All (λ (p : Pair). Within m (p .0)) (met (m .next) s cs)
+pub met-within : (m : Meaning) → Lawful m → (s : State) (cs : List ℕ) → Within m s → All (λ (p : Pair). Within m (p .0)) (met (m .next) s cs)
 met-within m l s [] w = tt
 met-within m l s (c ∷ cs) w =
     cond-both (isEmpty s) [] _ (All (λ (p : Pair). Within m (p .0))) (λ e. tt) (λ e. (w, met-within m l (m .next s c) cs (l .steps s c)))
@@ -96,8 +67,10 @@ works-sound {n} {v} {w} s cs l a b x =
     (subst (All (Right (v .book .meaning))) (sym (x .kept))
     (keepAll-right (v .book .meaning) (v .kept) (met (v .book .meaning .next) s cs) (met-within (v .book .meaning) l s cs b) a))
 
-pub reads-bare : {text : List ℕ} {rules : Rules} {n : ℕ} {v w : View} → Lawful (v .book .meaning) → Reads text rules n v w → ReadsBare text rules n v w
-reads-bare {text} {rules} {n} {v} {w} l r a =
-    let b : ReadsBy (v .book .meaning .next) text rules n v w =
-    subst (λ (f : State → ℕ → State). ReadsBy f text rules n v w) (sound-goes v l a) r in
-    (b, works-sound (v .book .meaning .start) text l a (l .starts) (b .works))
+-- a reading of a sound reader, from live positions, goes as the bare reading does
+pub reads-bare : {x : Reading} {t : Told} {n : ℕ} {v w : View} → Lawful (v .book .meaning) → Sound v → Within (v .book .meaning) (from (v .book .meaning) x)
+    → Reads x t n v w → ReadsBy (v .book .meaning .next) x t n v w × Sound w
+reads-bare {x} {t} {n} {v} {w} l a b r =
+    let bare : ReadsBy (v .book .meaning .next) x t n v w =
+    subst (λ (f : State → ℕ → State). ReadsBy f x t n v w) (sound-goes v l a) r in
+    (bare, works-sound (from (v .book .meaning) x) (codes x) l a b (bare .works))

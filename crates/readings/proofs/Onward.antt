@@ -1,11 +1,9 @@
 -- A reading half done: what was met so far, and what is left. Assumes nothing.
 use mathlib.Core.Path.{_≡_, refl, sym, ap, ap₂, _∙_, subst}
-use mathlib.Core.Bool.{Bool, true, false, cond}
-use mathlib.Core.List.{List, [], _∷_, _++_, append-assoc, map}
-use Prim.Native.Nat.{ℕ, _+_, _≤_, _<_, _^_}
-use lib.ListN.{length, drop, getD}
-use native.Mathlib.Omega.{arith}
-use Rattle.std.proofs.shelf.Lists.{drop-more, drop-all}
+use mathlib.Core.Bool.{true, false}
+use mathlib.Core.Logic.{_⊎_, inl, inr}
+use mathlib.Core.List.{List, [], _∷_, _++_, append-assoc, append-nil}
+use Prim.Native.Nat.{ℕ, _+_, _<_, _^_}
 use Rattle.std.proofs.shelf.Tests.{cond-true, cond-false}
 use Rattle.states.specs.declared.state.State.{State}
 use Rattle.states.specs.declared.rules.Rules.{Rules}
@@ -14,7 +12,9 @@ use Rattle.books.specs.Meaning.{Meaning}
 use Rattle.books.specs.Texts.{after}
 use Rattle.readings.specs.Views.{View}
 use Rattle.readings.specs.Runs.{Pair, goes, met, Works}
-use Rattle.readings.specs.Readings.{ReadsBy, Reads}
+use Rattle.readings.specs.Readings.{Reads}
+use Rattle.readings.specs.Readings.Reading.{whole, feed}
+use Rattle.readings.specs.Readings.Told.{ended, walking}
 use Rattle.readings.proofs.Runs.{works-none, works-then, works-goes, works-meaning}
 
 -- A reading of `text` from s₀ by the reader v₀ has worked out n steps, which left the reader v. It stands at s, before `rest`.
@@ -49,38 +49,46 @@ pub meets-none : (v : View) (s : State) (text : List ℕ) → isEmpty s ≡ true
 meets-none v s [] e = refl
 meets-none v s (c ∷ cs) e = cond-true (isEmpty s) [] _ e
 
-append-none : {X : Type 0} (xs : List X) → xs ++ [] ≡ xs
-append-none [] = refl
-append-none (x ∷ xs) = ap (λ ys. x ∷ ys) (append-none xs)
+-- nothing is left, or the state is empty
+abbrev pub Over : State → List ℕ → Type 0
+Over s rest = (rest ≡ []) ⊎ (isEmpty s ≡ true)
 
--- the reading is over where nothing is left to meet
-onward-over : {v₀ v : View} {s₀ s : State} {text rest : List ℕ} {n : ℕ} {rules : Rules} → Onward v₀ s₀ text v s rest n
-    → met (goes v₀) s rest ≡ [] → after (goes v₀) s rest ≡ s → s₀ ≡ v₀ .book .meaning .start → rules ≡ v .book .meaning .ended s
-    → Reads text rules n v₀ v
-onward-over {v₀} {v} {s₀} {s} {text} {rest} {n} {rules} o p q b r =
-    subst (λ (z : State). (rules ≡ v₀ .book .meaning .ended (after (goes v₀) z text)) → Works (met (goes v₀) z text) n v₀ v → Reads text rules n v₀ v) (sym b)
-    (λ x y. record { ends = x; works = y })
-    (r ∙ ap₂ (λ (m : Meaning) (z : State). m .ended z) (works-meaning (o .works)) (sym (o .state ∙ q)))
-    (subst (λ (ps : List Pair). Works ps n v₀ v) (sym (o .pairs ∙ ap (λ (ps : List Pair). o .passed ++ ps) p ∙ append-none (o .passed))) (o .works))
+over-pairs : (v : View) (s : State) (rest : List ℕ) → Over s rest → met (goes v) s rest ≡ []
+over-pairs v s rest (inl e) = ap (met (goes v) s) e
+over-pairs v s rest (inr e) = meets-none v s rest e
 
--- the state is empty
-pub onward-stops : {v₀ v : View} {s₀ s : State} {text rest : List ℕ} {n : ℕ} {rules : Rules} → Onward v₀ s₀ text v s rest n
-    → isEmpty s ≡ true → s₀ ≡ v₀ .book .meaning .start → rules ≡ v .book .meaning .ended s → Reads text rules n v₀ v
-onward-stops {v₀} {v} {s₀} {s} {text} {rest} o e b r = onward-over o (meets-none v₀ s rest e) (stuck v₀ s rest e) b r
+over-state : (v : View) (s : State) (rest : List ℕ) → Over s rest → after (goes v) s rest ≡ s
+over-state v s rest (inl e) = ap (after (goes v) s) e
+over-state v s rest (inr e) = stuck v s rest e
 
--- ---- the same over a slice of symbols, of which i are read
+-- what a reading that is over has met
+pub onward-works : {v₀ v : View} {s₀ s : State} {text rest : List ℕ} {n : ℕ} → Onward v₀ s₀ text v s rest n → Over s rest
+    → Works (met (goes v₀) s₀ text) n v₀ v
+onward-works {v₀} {v} {s₀} {s} {text} {rest} {n} o z =
+    subst (λ (ps : List Pair). Works ps n v₀ v)
+    (sym (o .pairs ∙ ap (λ (ps : List Pair). o .passed ++ ps) (over-pairs v₀ s rest z) ∙ append-nil (o .passed)))
+    (o .works)
 
-module _ {X : Type 0} (code : X → ℕ) (text : List X) where
-  pub onward-more : {v₀ v w : View} {s₀ s t : State} {i n k : ℕ} (x : X) → i < length text → x ≡ getD text i x
-      → Onward v₀ s₀ (map code text) v s (map code (drop i text)) n → isEmpty s ≡ false → Works ((s, code x) ∷ []) k v w → t ≡ goes v s (code x)
-      → Onward v₀ s₀ (map code text) w t (map code (drop (i + 1) text)) (n + k)
-  onward-more {v₀} {v} {w} {s₀} {s} {t} {i} {n} {k} x h r o e y g =
-      onward-step {rest = map code (drop (i + 1) text)}
-      (subst (λ (l : List X). Onward v₀ s₀ (map code text) v s (map code l) n) (drop-more text i x h ∙ ap (λ (z : X). z ∷ drop (i + 1) text) (sym r)) o) e y g
+-- a reading of a whole text is over
+pub onward-whole : {v₀ v : View} {s : State} {text rest : List ℕ} {n : ℕ} {rules : Rules} → Onward v₀ (v₀ .book .meaning .start) text v s rest n
+    → Over s rest → rules ≡ v .book .meaning .ended s → Reads (whole text) (ended rules) n v₀ v
+onward-whole {v₀} {v} {s} {text} {rest} o z r = record {
+  tells = ap ended (r ∙ ap₂ (λ (m : Meaning) (t : State). m .ended t) (works-meaning (o .works)) (sym (o .state ∙ over-state v₀ s rest z)));
+  works = onward-works o z;
+}
 
-  -- the text has ended
-  pub onward-ends : {v₀ v : View} {s₀ s : State} {i n : ℕ} {rules : Rules} → length text ≤ i
-      → Onward v₀ s₀ (map code text) v s (map code (drop i text)) n → s₀ ≡ v₀ .book .meaning .start → rules ≡ v .book .meaning .ended s
-      → Reads (map code text) rules n v₀ v
-  onward-ends {v₀} {v} {s₀} {s} {i} {n} h o b r =
-      onward-over {rest = []} (subst (λ (l : List X). Onward v₀ s₀ (map code text) v s (map code l) n) (drop-all i text h) o) refl refl b r
+-- ---- one symbol, fed to a walk
+
+pub feed-step : {v w : View} {s t : State} {c e k : ℕ} → Works ((s, c) ∷ []) k v w → t ≡ goes v s c → isEmpty s ≡ false
+    → Reads (feed e s c) (walking e t) k v w
+feed-step {v} {w} {s} {t} {c} {e} {k} x g f = record {
+  tells = ap (walking e) g;
+  works = subst (λ (ps : List Pair). Works ps k v w) (sym (cond-false (isEmpty s) [] ((s, c) ∷ []) f)) x;
+}
+
+-- from the empty state nothing is worked out
+pub feed-empty : (v : View) (s : State) (e c : ℕ) → v .tally < 2 ^ 32 → isEmpty s ≡ true → Reads (feed e s c) (walking e s) 0 v v
+feed-empty v s e c l f = record {
+  tells = ap (walking e) (sym (stuck v s (c ∷ []) f));
+  works = subst (λ (ps : List Pair). Works ps 0 v v) (sym (meets-none v s (c ∷ []) f)) (works-none v l);
+}

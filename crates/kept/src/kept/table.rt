@@ -10,15 +10,14 @@ ghost use Rattle.states.specs.Sets.{shares};
 ghost use Rattle.kept.specs.Steps.{found, keep, step, zipped};
 ghost use Rattle.kept.specs.Tables.{steps};
 use crate::kept::Kept;
+use crate::kept::LIMIT;
 use states::State;
 use states::StateSame;
 use std::alloc::AllocError;
 use std::alloc::Global;
 
-const LIMIT: usize = 512;
-
 impl Kept {
-    // A table with no step. It reserves all the memory that it will ever have, and is refused where there is not enough.
+    // A table with no step. It reserves all the memory that it will ever use, and is refused where there is too little.
     pub fn new(heap: Global) -> Result<Kept, AllocError>
         ensures { λ r. ⌜ made r (λ t. steps t ≡ []) ⌝ }
     {
@@ -48,7 +47,7 @@ impl Kept {
         None
     }
 
-    // Keeps one more step, unless 512 are kept or one from this state by this code is. It never allocates.
+    // Keeps one more step, unless `LIMIT` are kept or one from this state by this code is. It never allocates.
     pub fn keep(&mut self, state: State, code: u16, next: State)
         ensures { λ _. ⌜ steps (now (self .exit)) ≡ keep (steps (now (self .entry))) (step state code next) ⌝ }
     {
@@ -76,15 +75,14 @@ impl Kept {
     }
 }
 
-// The work of `drop_touching`, on vectors of their own: while steps move down, the same step may stand twice.
+// The work of `drop_touching`, apart from the table: while steps move down, one may stand twice.
 fn drop_rows(
     codes: &mut Vec<u16>,
     states: &mut Vec<State>,
     nexts: &mut Vec<State>,
     positions: State,
 )
-    requires states { ⌜ vec-len (now states) ≡ vec-len (now codes) ⌝ }
-    requires nexts { ⌜ vec-len (now nexts) ≡ vec-len (now codes) ⌝ }
+    requires { ⌜ (vec-len (now states) ≡ vec-len (now codes)) × (vec-len (now nexts) ≡ vec-len (now codes)) ⌝ }
     ensures level { λ _. ⌜ (vec-len (now (states .exit)) ≡ vec-len (now (codes .exit))) × (vec-len (now (nexts .exit)) ≡ vec-len (now (codes .exit))) ⌝ }
     ensures rows { λ _. ⌜ zipped (vec-items (now (codes .exit))) (vec-items (now (states .exit))) (vec-items (now (nexts .exit))) ≡ kept-by (λ x. not (shares (x .state) positions)) (zipped (vec-items (now (codes .entry))) (vec-items (now (states .entry))) (vec-items (now (nexts .entry)))) ⌝ }
     ensures room { λ _. ⌜ (vec-cap (now (codes .exit)) ≡ vec-cap (now (codes .entry))) × (vec-cap (now (states .exit)) ≡ vec-cap (now (states .entry))) × (vec-cap (now (nexts .exit)) ≡ vec-cap (now (nexts .entry))) ⌝ }

@@ -1,19 +1,14 @@
 use mathlib.Core.Path.{_≡_, sym, ap, _∙_}
-use mathlib.Core.Bool.{Bool, true, false}
+use mathlib.Core.Bool.{true, false}
 use Prim.Native.Nat.{_<_, _≤_}
 use native.Mathlib.Omega.{arith}
-use lib.Dec.{eqb}
 use lib.ListN.{length}
 use Rattle.std.proofs.shelf.Lists.{at-drop-all}
-use Rattle.std.proofs.shelf.Tests.{and-from, and-left, and-right, eq-eqb, ne-eqb}
-use Rattle.std.specs.Of.Vec.{vec-items}
 use Rattle.std.specs.declared.option.Option.the-variants.{Some}
-use Rattle.states.specs.Sets.{same}
-use Rattle.states.specs.declared.state.State.{State}
 use Rattle.kept.specs.Steps.{from, found}
 use Rattle.kept.specs.Tables.{steps}
-use Rattle.kept.proofs.Found.{found-drop-here, found-drop-past}
-use Rattle.kept.proofs.Whole.{count-is, at, reads-code, reads-state, reads-next}
+use Rattle.kept.proofs.Found.{from-both, from-other-state, from-other-code, found-drop-here, found-drop-past}
+use Rattle.kept.proofs.Tables.{count-is, at, reads-code, reads-state, reads-next}
 use Rattle.kept.proofs.kept.Kept.find.Needs as need
 use Rattle.kept.proofs.kept.Kept.find.Needs.{else-index-code·by·then-index-code·else-eq, else-index-code·by·else-index-code}
 
@@ -23,10 +18,10 @@ loop-i-again c =
     let i = c .loop-i .i in
     let within : i < length (steps t) = omega (arith, count-is t) in
     let past : from (at t i) (c .args .state) (c .args .code) ≡ false = elim (c .else-index-code .came) [
-      | else-index-code·by·then-index-code·else-eq w ↦ and-left _ _
-          (ap (λ (s : State). same s (c .args .state)) (reads-state t i _ within (w .index-then-index-code .ensures)) ∙ sym (w .eq .ensures .0) ∙ w .if-eq .left)
-      | else-index-code·by·else-index-code w ↦ and-right (same (at t i .state) (c .args .state)) _
-          (ne-eqb _ _ (λ e. w .if-index-code .left (sym (reads-code t i _ within (c .index .ensures)) ∙ e)))
+      | else-index-code·by·then-index-code·else-eq w ↦ from-other-state (at t i) (c .args .state) _ (c .args .code)
+          (reads-state t i _ within (w .index-then-index-code .ensures)) (w .if-eq .ensures tt .0)
+      | else-index-code·by·else-index-code w ↦ from-other-code (at t i) (c .args .state) (c .args .code) _
+          (reads-code t i _ within (c .index .ensures)) (w .if-index-code .left)
     ] in
     sym (found-drop-past (steps t) i _ _ _ within past) ∙ c .loop-i .inv
 
@@ -35,9 +30,9 @@ returns-then-eq c =
     let t = c .args .self .now in
     let i = c .loop-i .i in
     let within : i < length (steps t) = omega (arith, count-is t) in
-    let here : from (at t i) (c .args .state) (c .args .code) ≡ true = and-from _ _
-    (ap (λ (s : State). same s (c .args .state)) (reads-state t i _ within (c .index-then-index-code .ensures)) ∙ sym (c .eq .ensures .0) ∙ c .if-eq .taken)
-    (eq-eqb _ _ (reads-code t i _ within (c .index .ensures) ∙ c .if-index-code .taken)) in
+    let here : from (at t i) (c .args .state) (c .args .code) ≡ true = from-both (at t i) (c .args .state) _ (c .args .code) _
+    (reads-state t i _ within (c .index-then-index-code .ensures)) (c .if-eq .ensures tt .0)
+    (reads-code t i _ within (c .index .ensures)) (c .if-index-code .taken) in
     ap Some (sym (reads-next t i _ within (c .index-then-eq .ensures))) ∙ sym (found-drop-here (steps t) i _ _ _ within here) ∙ c .loop-i .inv
 
 pub returns : need.returns

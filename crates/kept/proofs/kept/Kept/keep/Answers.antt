@@ -1,18 +1,14 @@
-use mathlib.Core.Path.{_≡_, sym, ap, _∙_, subst}
-use mathlib.Core.Bool.{true}
-use mathlib.Core.List.{List, [], _∷_, _++_}
+use mathlib.Core.Path.{sym, ap, _∙_}
 use Prim.Native.Nat.{_≤_, _<_}
 use native.Mathlib.Omega.{arith}
 use borrow.Author.Needs.{needs}
 use lib.ListN.{length}
-use Rattle.std.specs.Of.Vec.{vec-items}
 use Rattle.std.specs.Options.{isSome}
-use Rattle.std.specs.declared.option.Option.the-variants.{None}
-use Rattle.kept.specs.Steps.{Step, step, found, distinct, most, zipped}
+use Rattle.kept.specs.Steps.{step, distinct, most}
 use Rattle.kept.specs.Tables.{steps}
 use Rattle.kept.proofs.Found.{none-from-isSome, distinct-push}
 use Rattle.kept.proofs.Keeps.{keep-full, keep-there, keep-new}
-use Rattle.kept.proofs.Whole.{count-is, steps-distinct, pushed}
+use Rattle.kept.proofs.Tables.{count-is, steps-distinct, pushed}
 use Rattle.kept.proofs.kept.Kept.keep.Needs as need
 
 pub returns-then-len-ge-LIMIT : need.returns-then-len-ge-LIMIT

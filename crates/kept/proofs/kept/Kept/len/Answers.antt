@@ -1,5 +1,5 @@
 use mathlib.Core.Path.{_∙_}
-use Rattle.kept.proofs.Whole.{count-is}
+use Rattle.kept.proofs.Tables.{count-is}
 use Rattle.kept.proofs.kept.Kept.len.Needs as need
 
 pub returns : need.returns

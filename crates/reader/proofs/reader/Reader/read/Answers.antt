@@ -1,13 +1,14 @@
 use mathlib.Core.Path.{_≡_, refl, sym, ap, subst, _∙_}
 use mathlib.Core.Bool.{cond}
+use mathlib.Core.Logic.{inr}
 use mathlib.Core.List.{map}
 use Prim.Native.Nat.{ℕ, _+_, _≤_}
 use native.Mathlib.Omega.{arith}
 use borrow.Author.Needs.{needs}
-use lib.ListN.{drop, length}
-use Rattle.readings.specs.Readings.{Reads}
-use Rattle.readings.proofs.Onward.{Onward, onward-none, onward-more, onward-ends, onward-stops}
-use Rattle.readings.proofs.Bare.{reads-bare}
+use lib.ListN.{drop}
+use Rattle.states.specs.declared.state.State.{State}
+use Rattle.readings.proofs.Onward.{Onward, onward-none, onward-whole}
+use Rattle.readings.proofs.Slices.{onward-more, all-read}
 use Rattle.reader.specs.View.{view}
 use Rattle.reader.proofs.reader.Reader.read.Needs as need
 use Rattle.reader.proofs.reader.Reader.read.Needs.{then-taken, else-taken, else-loop-symbol-test, then-loop-symbol-test·then-is-empty}
@@ -38,9 +39,9 @@ loop-symbol-again g c =
 pub returns : need.returns
 returns g c =
     let code = g .Symbol·Symbol .code in
-    let reads : Reads (map code (c .args .text .now)) (c .ended .result) (c .loop-symbol .count) (view (g .B·Book .model) (c .args .self .now)) (view (g .B·Book .model) (c .loop-symbol .self)) =
+    let o = subst (λ (s : State). Onward (view (g .B·Book .model) (c .args .self .now)) s (map code (c .args .text .now)) (view (g .B·Book .model) (c .loop-symbol .self)) (c .loop-symbol .state) (map code (drop (c .loop-symbol .symbol-index) (c .args .text .now))) (c .loop-symbol .count))
+    (c .start-state .ensures) (c .loop-symbol .inv .0) in
     elim (c .loop-symbol-test .came) [
-      | else-loop-symbol-test w ↦ onward-ends code (c .args .text .now) (w .loop-symbol-test .left) (c .loop-symbol .inv .0) (c .start-state .ensures) (c .ended .ensures)
-      | then-loop-symbol-test·then-is-empty w ↦ onward-stops (c .loop-symbol .inv .0) (sym (w .if-is-empty .ensures tt .value)) (c .start-state .ensures) (c .ended .ensures)
-    ] in
-    record { reads = reads; bare = reads-bare (g .B·Book·met .lawful _) reads }
+      | else-loop-symbol-test w ↦ onward-whole o (all-read code (c .args .text .now) (c .loop-symbol .state) (w .loop-symbol-test .left)) (c .ended .ensures)
+      | then-loop-symbol-test·then-is-empty w ↦ onward-whole o (inr (sym (w .if-is-empty .ensures tt .value))) (c .ended .ensures)
+    ]

@@ -1,0 +1,3 @@
+mod Seeks
+mod Changes
+mod Underway
