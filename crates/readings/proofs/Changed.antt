@@ -1,6 +1,6 @@
 -- What an accepted change leaves of states with live positions only, and of the steps from them.
-use mathlib.Core.Path.{_≡_, refl, sym, ap, _∙_}
-use mathlib.Core.Bool.{true, false, not}
+use mathlib.Core.Path.{_≡_, sym, ap, _∙_}
+use mathlib.Core.Bool.{false, not}
 use mathlib.Core.List.{List, [], _∷_}
 use Prim.Native.Nat.{ℕ}
 use Rattle.std.specs.Options.{isSome}
@@ -9,7 +9,6 @@ use Rattle.std.specs.shelf.Lists.{All}
 use Rattle.std.proofs.shelf.Elements.{all-weaker}
 use Rattle.std.proofs.shelf.Tests.{both-ways, not-true, cond-both}
 use Rattle.states.specs.declared.state.State.{State}
-use Rattle.states.specs.Sets.{has}
 use Rattle.books.specs.Meaning.{Meaning, Lawful, Within, touches}
 use Rattle.books.specs.Changes.{Elsewhere, Added, Deleted}
 use Rattle.kept.specs.Steps.{Step}

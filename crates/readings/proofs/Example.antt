@@ -3,22 +3,20 @@ use mathlib.Core.Path.{_≡_, refl, sym, ap, _∙_, subst, subst₂}
 use mathlib.Core.Bool.{Bool, true, false, cond, _&&_}
 use mathlib.Core.Logic.{inl, inr, _↔_}
 use mathlib.Core.List.{List, [], _∷_, _++_}
-use Prim.Native.Nat.{ℕ, _+_, _≤_, _<_}
+use Prim.Native.Nat.{ℕ, _+_, _≤_}
 use native.Mathlib.Omega.{arith}
 use lib.Dec.{eqb, ltb, lit<, lit≤}
 use lib.ListN.{length}
 use Rattle.std.specs.Options.{isSome}
-use Rattle.std.specs.declared.option.Option.{Option}
 use Rattle.std.specs.declared.option.Option.the-variants.{Some, None}
 use Rattle.std.specs.shelf.Lists.{All}
-use Rattle.std.proofs.shelf.Tests.{ltb-true, ltb-false, lt-ltb, le-ltb, and-parts, and-from, and-left, and-right, both-ways, cases-bool, cases-eq, cases-lt, eq-eqb, cond-true, cond-false}
+use Rattle.std.proofs.shelf.Tests.{ltb-true, lt-ltb, le-ltb, and-parts, and-right, both-ways, cases-bool, cases-eq, cases-lt, eq-eqb, cond-true, cond-false}
 use Rattle.states.specs.declared.state.State.{State}
-use Rattle.states.specs.declared.rules.Rules.{Rules}
 use Rattle.states.specs.Words.{some, digitsOf}
 use Rattle.states.specs.Sets.{has, setOf, hasRule, rulesOf, same, isEmpty, noRule}
 use Rattle.states.proofs.Members.{has-above, has-setOf, member-below, hasRule-rulesOf, rules-above, same-members, same-rules}
 use Rattle.books.specs.Meaning.{Meaning, Lawful, counting, is, touches}
-use Rattle.books.specs.Changes.{Elsewhere, Added, Deleted}
+use Rattle.books.specs.Changes.{Added, Deleted}
 use Rattle.books.specs.Texts.{after}
 use Rattle.kept.specs.Steps.{Step, most, found, keep}
 use Rattle.readings.specs.Views.{View}

@@ -1,19 +1,17 @@
 -- The pairs that kept steps are from, and what more of them changes. Assumes nothing.
-use mathlib.Core.Path.{_≡_, refl, sym, ap, ap₂, _∙_, subst}
+use mathlib.Core.Path.{_≡_, refl, sym, ap, _∙_, subst}
 use mathlib.Core.Bool.{Bool, true, false, cond, not, _&&_, _||_}
 use mathlib.Core.Logic.{inl, inr}
 use mathlib.Core.List.{List, [], _∷_, _++_, map, append-assoc, append-nil}
-use Prim.Native.Nat.{ℕ, suc, _+_, _≤_, _<_}
+use Prim.Native.Nat.{ℕ, suc, _+_, _≤_}
 use native.Mathlib.Omega.{arith}
 use lib.Dec.{eqb, leb, ltb}
 use lib.ListN.{length, length-append}
 use Rattle.std.specs.Options.{isSome}
-use Rattle.std.specs.declared.option.Option.{Option}
-use Rattle.std.specs.declared.option.Option.the-variants.{Some, None}
+use Rattle.std.specs.declared.option.Option.the-variants.{Some}
 use Rattle.std.specs.shelf.Lists.{All, kept-by}
 use Rattle.std.proofs.shelf.Lists.{map-push, length-map}
-use Rattle.std.proofs.shelf.Tests.{and-parts, or-cases, or-left, or-right, or-from, cond-true, cond-false, cond-both, cases-bool, both-ways, not-from-false, lt-ltb, le-ltb, lt-leb, leb-true, leb-false, eqb-true}
-use Rattle.states.specs.declared.state.State.{State}
+use Rattle.std.proofs.shelf.Tests.{and-parts, or-cases, or-left, or-right, cond-true, cond-false, cond-both, cases-bool, both-ways, not-from-false, lt-ltb, le-ltb, leb-true, leb-false}
 use Rattle.states.specs.Sets.{same}
 use Rattle.states.proofs.Members.{same-true}
 use Rattle.books.specs.Meaning.{Meaning, touches}

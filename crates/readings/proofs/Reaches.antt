@@ -1,7 +1,6 @@
 -- Histories that grow at their end.
-use mathlib.Core.Path.{_≡_, refl, sym, subst}
+use mathlib.Core.Path.{_≡_, refl, subst}
 use mathlib.Core.List.{List, [], _∷_, _++_}
-use Prim.Native.Nat.{ℕ}
 use Rattle.readings.specs.Views.{View}
 use Rattle.readings.specs.Calls.{Does}
 use Rattle.readings.specs.Entries.{Entry}

@@ -15,7 +15,7 @@ use Rattle.books.specs.Meaning.{Meaning, Lawful}
 use Rattle.books.specs.Texts.{after}
 use Rattle.readings.specs.Views.{View}
 use Rattle.readings.specs.Runs.{goes, met, Works}
-use Rattle.readings.specs.Readings.{Told, Reads, Searches, Longest, endedBy}
+use Rattle.readings.specs.Readings.{Told, Reads, Searches, endedBy}
 use Rattle.readings.specs.Readings.Reading.{token, peek}
 use Rattle.readings.specs.Readings.Told.{matched, refused}
 use Rattle.readings.specs.Readings.Searches.{finds, fails}
@@ -157,8 +157,7 @@ module _ {v₀ v : View} {s : State} {rest left : List ℕ} {n best : ℕ} {rule
       found : (best ≡ 0) ⊎ ((noRule rules ≡ false) × (rules ≡ endedAt v₀ rest best)) → Searches (v₀ .book .meaning) (goes v₀) rest place (matched place best rules)
       found (inl q) = absurd (omega arith)
       found (inr q) =
-          let l = ap length (o .parts) ∙ length-append (o .past) left in
-          let i = o .within in
+          let l = sought-within o in
           subst (λ (rs : Rules). Searches (v₀ .book .meaning) (goes v₀) rest place (matched place best rs)) (sym (q .1))
           (finds best (record { some = b; within = omega arith; ends = ap noRule (sym (q .1)) ∙ q .0; longer = over-longer law o z }))
 

@@ -8,13 +8,11 @@ use lib.ListN.{length, length-append}
 use Rattle.std.specs.declared.option.Option.{Option}
 use Rattle.std.specs.declared.option.Option.the-variants.{Some, None}
 use Rattle.std.specs.shelf.Lists.{All}
-use Rattle.std.proofs.shelf.Elements.{all-weaker}
 use Rattle.std.proofs.shelf.Tests.{cond-false}
-use Rattle.states.specs.declared.state.State.{State}
 use Rattle.books.specs.Meaning.{Meaning, InForce, Lawful, Within}
-use Rattle.kept.specs.Steps.{Step, most}
+use Rattle.kept.specs.Steps.{most}
 use Rattle.readings.specs.Views.{View, Right}
-use Rattle.readings.specs.Runs.{Pair, met, worked, keepAll}
+use Rattle.readings.specs.Runs.{Pair, met, worked}
 use Rattle.readings.specs.Readings.{Reading, Told, from, codes}
 use Rattle.readings.specs.Calls.{Call}
 use Rattle.readings.specs.Calls.Call.{read, add, delete, begin, finish}

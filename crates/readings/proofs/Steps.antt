@@ -1,6 +1,6 @@
 -- One step of a reader, by a kept step or by the book. Assumes nothing.
 use mathlib.Core.Path.{_≡_, refl, sym, ap, _∙_}
-use mathlib.Core.Bool.{Bool, true, false, cond}
+use mathlib.Core.Bool.{true, false}
 use mathlib.Core.List.{List, [], _∷_}
 use Prim.Native.Nat.{ℕ, _+_, _<_, _^_, min}
 use native.Mathlib.Omega.{arith}
@@ -11,8 +11,8 @@ use Rattle.std.specs.declared.option.Option.the-variants.{Some, None}
 use Rattle.std.proofs.shelf.Tests.{cond-true, cond-false}
 use Rattle.states.specs.declared.state.State.{State}
 use Rattle.states.specs.Sets.{isEmpty}
-use Rattle.books.specs.Meaning.{Model, asked}
-use Rattle.kept.specs.Steps.{Step, found, keep}
+use Rattle.books.specs.Meaning.{asked}
+use Rattle.kept.specs.Steps.{found, keep}
 use Rattle.readings.specs.Views.{View}
 use Rattle.readings.specs.Runs.{Pair, goes, meant, isKept, worked, askedAll, Works}
 use Rattle.readings.proofs.Tables.{keep-kept}

@@ -1,7 +1,7 @@
 -- What one call of a sound reader does to the pairs kept and to the book's meaning, told from the call.
 use mathlib.Core.Path.{_≡_, refl, sym, ap, _∙_, subst}
-use mathlib.Core.Bool.{Bool, true, false, cond}
-use mathlib.Core.Logic.{_⊎_, inl, inr}
+use mathlib.Core.Bool.{true, false}
+use mathlib.Core.Logic.{inl, inr}
 use mathlib.Core.List.{List}
 use Prim.Native.Nat.{ℕ}
 use lib.ListN.{length}
@@ -11,16 +11,14 @@ use Rattle.std.specs.shelf.Lists.{All}
 use Rattle.std.proofs.shelf.Tests.{cond-true, cond-false}
 use Rattle.states.specs.declared.state.State.{State}
 use Rattle.books.specs.Meaning.{Meaning, Lawful, Within}
-use Rattle.books.specs.Changes.{Added, Deleted}
 use Rattle.books.specs.declared.faults.BookFault.{BookFault}
 use Rattle.kept.specs.Steps.{Step}
 use Rattle.readings.specs.Views.{View, Right, Sound}
 use Rattle.readings.specs.Runs.{met, worked}
 use Rattle.readings.specs.Readings.{Reading, Told, Searches, Tells, Bare, Reads, from, codes}
 use Rattle.readings.specs.Readings.Reading.{whole, token, peek, feed}
-use Rattle.readings.specs.Readings.Told.{refused}
 use Rattle.readings.specs.Readings.Searches.{finds, fails}
-use Rattle.readings.specs.Calls.{Call, Leaves, Changes, ChangesOr, ReadsAs, Does, without}
+use Rattle.readings.specs.Calls.{Call, Leaves, ChangesOr, ReadsAs, Does}
 use Rattle.readings.specs.Calls.Call.{read, add, delete, begin, finish}
 use Rattle.readings.specs.Entries.{isStale, readOf, isChanged, deletedBy, metBy, keepPairs, dropBy}
 use Rattle.readings.proofs.Runs.{works-meaning}

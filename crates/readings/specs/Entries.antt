@@ -1,5 +1,4 @@
 -- The entries of a history, and which steps are kept, told from the entries alone.
-use mathlib.Core.Path.{_≡_}
 use mathlib.Core.Bool.{Bool, true, false, not, cond, _&&_, _||_}
 use mathlib.Core.List.{List, [], _∷_, _++_}
 use Prim.Native.Nat.{ℕ, _+_}
@@ -8,7 +7,6 @@ use lib.ListN.{length}
 use Rattle.std.specs.declared.option.Option.{Option}
 use Rattle.std.specs.declared.option.Option.the-variants.{Some, None}
 use Rattle.std.specs.shelf.Lists.{kept-by}
-use Rattle.states.specs.declared.state.State.{State}
 use Rattle.states.specs.Sets.{same}
 use Rattle.books.specs.Meaning.{Meaning, touches}
 use Rattle.kept.specs.Steps.{most}

@@ -1,12 +1,12 @@
 -- Histories: any calls on one new reader, one after the other, and what every history promises about its readings.
 use mathlib.Core.Path.{_≡_}
-use mathlib.Core.Bool.{Bool, true, false}
+use mathlib.Core.Bool.{true, false}
 use mathlib.Core.List.{List, [], _∷_, _++_}
 use Prim.Native.Nat.{ℕ, _+_, _≤_}
 use lib.ListN.{length}
 use Rattle.std.specs.declared.option.Option.the-variants.{Some}
 use Rattle.std.specs.shelf.Lists.{All}
-use Rattle.books.specs.Meaning.{Meaning, InForce}
+use Rattle.books.specs.Meaning.{InForce}
 use Rattle.kept.specs.Steps.{most}
 use Rattle.readings.specs.Views.{View}
 use Rattle.readings.specs.Readings.{Reading, Bare}

@@ -11,7 +11,7 @@ use Rattle.books.specs.Meaning.{Meaning}
 use Rattle.books.specs.Texts.{after}
 use Rattle.books.specs.Refusals.{told}
 use Rattle.books.specs.declared.refusal.Refusal.{Refusal}
-use Rattle.readings.specs.Views.{View, Sound}
+use Rattle.readings.specs.Views.{View}
 use Rattle.readings.specs.Runs.{goes, met, Works}
 
 pub data Reading : Type 0 where

@@ -2,7 +2,6 @@
 use mathlib.Core.List.{List, []}
 use Prim.Native.Nat.{ℕ}
 use Rattle.std.specs.shelf.Lists.{All}
-use Rattle.states.specs.declared.state.State.{State}
 use Rattle.books.specs.Meaning.{Meaning, Model, Within}
 use Rattle.kept.specs.Steps.{Step}
 use mathlib.Core.Path.{_≡_}
