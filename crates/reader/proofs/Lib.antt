@@ -1,3 +1,2 @@
 mod Seeks
 mod Changes
-mod Underway

@@ -2,4 +2,3 @@ pub mod View
 pub mod Seen
 pub mod Answers
 pub mod Cursors
-pub mod Replays

@@ -12,9 +12,9 @@ use Rattle.readings.specs.Calls.{Call, Does}
 use Rattle.readings.specs.Entries.{Entry}
 use Rattle.readings.proofs.Reaches.{Reaches, reaches-more, reaches-history}
 use Rattle.readings.proofs.Stand.{stands}
-use Rattle.reader.specs.Replays.{callOf, toldOf, countOf, Replayed}
-use Rattle.reader.specs.declared.log.Ask.{Ask}
-use Rattle.reader.specs.declared.log.Reply.{Reply}
+use Rattle.replays.specs.Replays.{callOf, toldOf, countOf, Replayed}
+use Rattle.replays.specs.declared.log.Ask.{Ask}
+use Rattle.replays.specs.declared.log.Reply.{Reply}
 
 -- the calls `asks` of the reader v have given the log and left the reader w
 pub record Replaying {S : Type 0} (code : S → ℕ) (v : View) (asks : List (Ask S)) (log : List Reply) (w : View) : Type 0 where

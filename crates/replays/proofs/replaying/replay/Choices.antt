@@ -2,9 +2,9 @@ use mathlib.Core.Path.{_≡_}
 use mathlib.Core.List.{_++_}
 use Rattle.std.specs.Of.Vec.{vec-items}
 use Rattle.std.specs.Of.IntoIter.{into-iter-items}
 use Rattle.reader.specs.View.{view}
-use Rattle.reader.proofs.Underway.{Replaying}
-use Rattle.reader.proofs.replaying.replay.Given as given
+use Rattle.replays.proofs.Underway.{Replaying}
+use Rattle.replays.proofs.replaying.replay.Given as given
 
 -- the calls that were done and their log, and the calls that are left
 abbrev pub Inv-loop-ask : given.InvT-loop-ask

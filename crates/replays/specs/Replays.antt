@@ -14,11 +14,11 @@ use Rattle.readings.specs.Calls.{Call}
 use Rattle.readings.specs.Calls.Call.{read, add, delete, begin, finish}
 use Rattle.readings.specs.Entries.{Entry}
 use Rattle.readings.specs.Histories.{History, Stands}
 use Rattle.reader.specs.Answers.{walkTold}
-use Rattle.reader.specs.declared.log.Ask.{Ask}
-use Rattle.reader.specs.declared.log.Ask.the-variants as ask
-use Rattle.reader.specs.declared.log.Reply.{Reply}
-use Rattle.reader.specs.declared.log.Reply.the-variants as reply
+use Rattle.replays.specs.declared.log.Ask.{Ask}
+use Rattle.replays.specs.declared.log.Ask.the-variants as ask
+use Rattle.replays.specs.declared.log.Reply.{Reply}
+use Rattle.replays.specs.declared.log.Reply.the-variants as reply
 
 -- the call that is asked for; a place beyond a text is its length
 abbrev pub callOf : {S : Type 0} → (S → ℕ) → Ask S → Call

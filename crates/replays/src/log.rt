@@ -1,9 +1,9 @@
-use crate::answer::Answer;
-use crate::answer::Token;
-use crate::walk::Fed;
-use crate::walk::HandedBack;
-use crate::walk::Walk;
 use books::Refusal;
+use reader::Answer;
+use reader::Fed;
+use reader::HandedBack;
+use reader::Token;
+use reader::Walk;
 use states::Rules;
 
 // A call of a reader, with all that it is given. A token is read, or peeked, at a place of a text.

@@ -1,9 +1,9 @@
 use mathlib.Core.Path.{_≡_, refl, sym, ap, _∙_}
 use mathlib.Core.List.{List, [], _∷_, _++_, append-assoc, append-nil}
 use Rattle.std.specs.Of.IntoIter.{into-iter-items}
 use Rattle.reader.specs.View.{view}
-use Rattle.reader.proofs.Underway.{replaying-none, replaying-more, replaying-done, none-left}
-use Rattle.reader.proofs.replaying.replay.Needs as need
+use Rattle.replays.proofs.Underway.{replaying-none, replaying-more, replaying-done, none-left}
+use Rattle.replays.proofs.replaying.replay.Needs as need
 
 pub loop-ask-holds : need.loop-ask-holds
 loop-ask-holds g c = (replaying-none _ _ _ (c .new-log .ensures .items), refl)
