@@ -11,7 +11,7 @@ use Rattle.books.specs.Meaning.{Meaning}
 use Rattle.books.specs.Texts.{after}
 use Rattle.books.specs.Refusals.{told}
 use Rattle.books.specs.declared.refusal.Refusal.{Refusal}
-use Rattle.readings.specs.Views.{View}
+use Rattle.readings.specs.Views.{View, Sound}
 use Rattle.readings.specs.Runs.{goes, met, Works}
 
 pub data Reading : Type 0 where
@@ -88,6 +88,10 @@ pub record ReadsBy (next : State → ℕ → State) (x : Reading) (t : Told) (n 
 -- as a reader goes, with the steps that it keeps
 abbrev pub Reads : Reading → Told → ℕ → View → View → Type 0
 Reads x t n v w = ReadsBy (goes v) x t n v w
+
+-- Where every kept step is the book's, a reading goes where the book says, and every kept step is the book's after it.
+abbrev pub ReadsAsMeant : Reading → Told → ℕ → View → View → Type 0
+ReadsAsMeant x t n v w = Sound v → ReadsBy (v .book .meaning .next) x t n v w × Sound w
 
 -- what the bare reading tells, which takes every step from the book's meaning
 abbrev pub Bare : Meaning → Reading → Told → Type 0

@@ -7,6 +7,10 @@ use native.Mathlib.Omega.{arith}
 use borrow.Author.Needs.{needs}
 use lib.ListN.{drop}
 use Rattle.states.specs.declared.state.State.{State}
+use Rattle.readings.specs.Readings.{Reads}
+use Rattle.readings.specs.Readings.Reading.{whole}
+use Rattle.readings.specs.Readings.Told.{ended}
+use Rattle.readings.proofs.Bare.{reads-bare}
 use Rattle.readings.proofs.Onward.{Onward, onward-none, onward-whole}
 use Rattle.readings.proofs.Slices.{onward-more, all-read}
 use Rattle.reader.specs.View.{view}
@@ -41,7 +45,9 @@ returns g c =
     let code = g .Symbol·Symbol .code in
     let o = subst (λ (s : State). Onward (view (g .B·Book .model) (c .args .self .now)) s (map code (c .args .text .now)) (view (g .B·Book .model) (c .loop-symbol .self)) (c .loop-symbol .state) (map code (drop (c .loop-symbol .symbol-index) (c .args .text .now))) (c .loop-symbol .count))
     (c .start-state .ensures) (c .loop-symbol .inv .0) in
+    let does : Reads (whole (map code (c .args .text .now))) (ended (c .ended .result)) (c .loop-symbol .count) (view (g .B·Book .model) (c .args .self .now)) (view (g .B·Book .model) (c .loop-symbol .self)) =
     elim (c .loop-symbol-test .came) [
       | else-loop-symbol-test w ↦ onward-whole o (all-read code (c .args .text .now) (c .loop-symbol .state) (w .loop-symbol-test .left)) (c .ended .ensures)
       | then-loop-symbol-test·then-is-empty w ↦ onward-whole o (inr (sym (w .if-is-empty .ensures tt .value))) (c .ended .ensures)
-    ]
+    ] in
+    record { does = does; meant = λ s. reads-bare (g .B·Book·met .lawful _) s (g .B·Book·met .lawful _ .starts) does }
