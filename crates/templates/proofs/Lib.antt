@@ -1,0 +1,7 @@
+mod Tables
+mod Laws
+mod Made
+mod Texts
+mod Invariants
+mod Alike
+mod Changes

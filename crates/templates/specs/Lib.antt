@@ -1,0 +1,2 @@
+-- What templates take, and what the template book means.
+pub mod Templates
