@@ -1,4 +1,6 @@
 // Readers over expression books with the same rules answer alike.
+#![tactic(auto)]
+
 mod comparing;
 mod sight;
 

@@ -1,4 +1,6 @@
 // The text of answers: one line for each.
+#![tactic(auto)]
+
 mod answers;
 mod bytes;
 mod events;

@@ -1,4 +1,6 @@
 // Rule books: what a reader may ask of one, what may be changed in one, and why a call is refused.
+#![tactic(auto)]
+
 mod book;
 mod changing;
 mod faults;

@@ -1,5 +1,7 @@
 // The reader in use with the cursor and the walk that commands work on, and what commands do to them. Each answer is
 // appended to a text.
+#![tactic(auto)]
+
 mod changing;
 mod context;
 mod fault;

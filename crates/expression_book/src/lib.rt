@@ -1,4 +1,6 @@
 // The expression book: rules by regular expressions over any kind of symbol, which can be added and deleted.
+#![tactic(auto)]
+
 mod book;
 mod part;
 mod row;

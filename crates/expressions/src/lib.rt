@@ -1,4 +1,6 @@
 // Expressions as runs of commands.
+#![tactic(auto)]
+
 mod command;
 mod decoding;
 

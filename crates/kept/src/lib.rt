@@ -1,4 +1,6 @@
 // The table of the steps that a reader keeps.
+#![tactic(auto)]
+
 mod kept;
 
 pub use kept::Kept;

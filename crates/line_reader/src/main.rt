@@ -1,4 +1,6 @@
 // Runs a script, one command to a line: from the file that the first argument names, or else from standard input.
+#![tactic(auto)]
+
 use anyhow::anyhow;
 use lines::BookName;
 use scripts::{Script, Session};

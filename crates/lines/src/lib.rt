@@ -1,4 +1,6 @@
 // The lines of a script: which line spells which command.
+#![tactic(auto)]
+
 mod arguments;
 mod command;
 mod decimals;

@@ -1,4 +1,6 @@
 // The number book: one rule that reads a number, perhaps with a fraction, perhaps in millimetres.
+#![tactic(auto)]
+
 mod book;
 mod table;
 

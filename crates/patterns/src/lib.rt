@@ -1,4 +1,6 @@
 // Pattern texts, and the commands of the expressions that they stand for.
+#![tactic(auto)]
+
 mod classes;
 mod faults;
 mod marks;

@@ -1,4 +1,6 @@
 // A reader over any rule book. It works out a step of the book's automaton when a text first needs it, and keeps it.
+#![tactic(auto)]
+
 mod answer;
 mod changing;
 mod cursor;

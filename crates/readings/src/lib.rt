@@ -1,4 +1,6 @@
 // What a reader does, call by call: definitions that its contracts cite, and the laws about them.
+#![tactic(auto)]
+
 ghost use Rattle.readings.specs.Example.{Repeated};
 
 // Such a history's steps.

@@ -1,4 +1,6 @@
 // Sessions, which run one line, and scripts, which run many.
+#![tactic(auto)]
+
 mod script;
 mod session;
 

@@ -1,4 +1,6 @@
 // Sets of positions and sets of rule numbers, as machine words. Every contract speaks of members.
+#![tactic(auto)]
+
 mod rules;
 mod state;
 

@@ -1,4 +1,6 @@
 // The template book: rules by short templates over bytes, which can be added and deleted.
+#![tactic(auto)]
+
 mod book;
 mod table;
 

@@ -15,7 +15,11 @@ impl PartialEq for Rules {
 
     ghost laws = { Keys.partial_equiv_from_equiv (first_of (Prim.search (comparing, rules), Prim.grind (arith, Self.row.coded.inj))) };
 
-    fn eq(&self, other: &Rules) -> bool {
+    fn eq(&self, other: &Rules) -> bool
+        ensures value { result ≡ on (λ v. v.bits) nat_eq self.now other.now }
+        ensures same { Decides result (self.now ≡ other.now) }
+        ensures members { Decides result ((n : ℕ) → has_rule self.now n ≡ has_rule other.now n) }
+    {
         self.bits == other.bits
     }
 }

@@ -1,8 +1,8 @@
 // The operations on states. Each is stated by its members.
-ghost use Rattle.std.specs.Prelude.{◌≡◌, ℕ, ◌+◌, ◌<◌, true, false, not, ◌&&◌, ◌||◌, Decides, MatchOption, ◌==◌, nat_eq, nat_lt, slice_index_or};
-ghost use Rattle.std.specs.Ordering.{on, eq_of_both};
+ghost use Rattle.std.specs.Prelude.{◌≡◌, ℕ, ◌+◌, ◌<◌, true, false, not, ◌&&◌, ◌||◌, Decides, MatchOption, ◌==◌, nat_lt, slice_index_or, nat_eq};
 ghost use Rattle.states.specs.Sets.{has, same, is_empty, nothing, shares, size};
 ghost use Rattle.states.specs.Words.{Gathers, Least, Popped};
+ghost use Rattle.std.specs.Ordering.{on, eq_of_both};
 ghost use Rattle.std.specs.Cmp.Rules.{comparing};
 ghost use Rattle.std.proofs.Common.{rules, arith};
 ghost use Rattle.std.specs.Cmp as Keys;
@@ -15,7 +15,12 @@ impl PartialEq for State {
 
     ghost laws = { Keys.partial_equiv_from_equiv (first_of (Prim.search (comparing, rules), Prim.grind (arith, Self.row.coded.inj))) };
 
-    fn eq(&self, other: &State) -> bool {
+    fn eq(&self, other: &State) -> bool
+        ensures halves { result ≡ eq_of_both (on (λ v. v.low) nat_eq) (on (λ v. v.high) nat_eq) self.now other.now }
+        ensures value { result ≡ same self.now other.now }
+        ensures state { Decides result (self.now ≡ other.now) }
+        ensures members { Decides result ((p : ℕ) → has self.now p ≡ has other.now p) }
+    {
         self.low == other.low && self.high == other.high
     }
 }

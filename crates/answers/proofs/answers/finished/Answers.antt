@@ -11,5 +11,5 @@ returns g c =
     let rules = met (g.B.Book.model c.args.book.now).meaning.kind c.args.rules in
     let one = string_bytes c.write.new.self in
     let two = string_bytes c.write-met.new.out in
-    appended r out (codes "finish ") (rules ++ (10 ∷ [])) one end c.in-ok-write.ensures.bytes
-    (appended r one rules (10 ∷ []) two end c.in-ok-write-met.ensures c.writeln.ensures.bytes)
+    appended r out (codes "finish ") (rules ++ (10 ∷ [])) one end c.in_ok-write.ensures.bytes
+    (appended r one rules (10 ∷ []) two end c.in_ok-write-met.ensures c.writeln.ensures.bytes)

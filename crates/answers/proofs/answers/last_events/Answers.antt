@@ -14,6 +14,6 @@ returns c =
     let one = string_bytes c.write.new.self in
     let two = string_bytes c.write-2.new.self in
     let three = string_bytes c.write-events.new.out in
-    appended r out head (codes " text=" ++ (34 ∷ (shown_events codes-of ++ (34 ∷ 10 ∷ [])))) one end c.in-ok-write.ensures.bytes
-    (appended r one (codes " text=" ++ (34 ∷ [])) (shown_events codes-of ++ (34 ∷ 10 ∷ [])) two end c.in-ok-write-2.ensures.bytes
-    (appended r two (shown_events codes-of) (34 ∷ 10 ∷ []) three end c.in-ok-write-events.ensures c.writeln.ensures.bytes))
+    appended r out head (codes " text=" ++ (34 ∷ (shown_events codes-of ++ (34 ∷ 10 ∷ [])))) one end c.in_ok-write.ensures.bytes
+    (appended r one (codes " text=" ++ (34 ∷ [])) (shown_events codes-of ++ (34 ∷ 10 ∷ [])) two end c.in_ok-write-2.ensures.bytes
+    (appended r two (shown_events codes-of) (34 ∷ 10 ∷ []) three end c.in_ok-write-events.ensures c.writeln.ensures.bytes))

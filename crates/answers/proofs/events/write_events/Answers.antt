@@ -33,17 +33,17 @@ module _ {X : Type 0} (f : X → ℕ) where
   shown_none out [] l = sym (append-nil out)
   shown_none out (y ∷ ys) l = absurd (omega arith)
 
-pub returns-in-default : goal.returns-in-default
-returns-in-default c = shown_none event-symbol.code (string_bytes c.args.out.now) c.args.events.now (search rules)
+pub returns-in_default : goal.returns-in_default
+returns-in_default c = shown_none event-symbol.code (string_bytes c.args.out.now) c.args.events.now (search rules)
 
 pub loop-event-preserved : goal.loop-event-preserved
 loop-event-preserved c =
     let events = c.args.events.now in
     spaced_more event-symbol.code (string_bytes c.loop-event.out) (string_bytes c.write.new.self) (string_bytes c.write-event-in-loop-event.new.out) (take (length events - 1) (drop 1 events))
-    c.loop-event.event-index c.event-item.result (omega arith) c.event-item.is c.in-ok-write.ensures.bytes c.in-ok-write-event-2.ensures
+    c.loop-event.event-index c.event-item.result (omega arith) c.event-item.is c.in_ok-write.ensures.bytes c.in_ok-write-event-2.ensures
     ∙ c.loop-event.invariant
 
 pub returns : goal.returns
 returns c =
     shown_all event-symbol.code (string_bytes c.args.out.now) (string_bytes c.write-event.new.out) (string_bytes c.loop-event.out) c.args.events.now c.loop-event.event-index c.first-item.result
-    (search rules) c.first-item.is c.in-ok-write-event.ensures (omega arith) c.loop-event.invariant
+    (search rules) c.first-item.is c.in_ok-write-event.ensures (omega arith) c.loop-event.invariant

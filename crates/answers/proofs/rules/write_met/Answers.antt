@@ -14,6 +14,6 @@ returns g c =
     let one = string_bytes c.write.new.self in
     let two = string_bytes c.write-rules.new.out in
     let three = string_bytes c.write-2.new.self in
-    appended r out (codes "rules=") (rules ++ (codes " kinds=" ++ kinds)) one end c.in-ok-write.ensures.bytes
-    (appended r one rules (codes " kinds=" ++ kinds) two end c.in-ok-write-rules.ensures
-    (appended r two (codes " kinds=") kinds three end c.in-ok-write-2.ensures.bytes c.write-kinds.ensures))
+    appended r out (codes "rules=") (rules ++ (codes " kinds=" ++ kinds)) one end c.in_ok-write.ensures.bytes
+    (appended r one rules (codes " kinds=" ++ kinds) two end c.in_ok-write-rules.ensures
+    (appended r two (codes " kinds=") kinds three end c.in_ok-write-2.ensures.bytes c.write-kinds.ensures))

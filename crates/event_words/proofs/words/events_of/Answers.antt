@@ -20,24 +20,24 @@ pub loop-rest-smaller : goal.loop-rest-smaller
 loop-rest-smaller c =
     subst (λ o. left (option_map (λ x. x.now) c.part.result.rest) < left o) (sym (ap (option_map (λ x. x.now)) c.in-Some.is)) (parts_less _ _ _ c.part.ensures)
 
-pub returns-in-err-here : goal.returns-in-err-here
-returns-in-err-here c =
+pub returns-in_err-here : goal.returns-in_err-here
+returns-in_err-here c =
     let text = c.args.text.now in
     let p = err_from_is_err_and c.from-residual.result c.from-residual.ensures.1 in
     let d = subst (λ o. Done text o (vec_items c.loop-rest.events) c.loop-rest.all) (ap (option_map (λ x. x.now)) c.in-Some.is) c.loop-rest.invariant in
-    let h = done_refused text _ _ _ (vec_items c.loop-rest.events) (vec_items c.take-word.new.events) c.loop-rest.all c.in-err-here.field-0.0 c.part.ensures d c.in-err-here.ensures in
+    let h = done_refused text _ _ _ (vec_items c.loop-rest.events) (vec_items c.take-word.new.events) c.loop-rest.all c.in_err-here.field-0.0 c.part.ensures d c.in_err-here.ensures in
     subst (Spells text) (sym (p.1 ∙ ap Err p.2)) h
 
 pub loop-rest-preserved : goal.loop-rest-preserved
 loop-rest-preserved c =
     let text = c.args.text.now in
     let d = subst (λ o. Done text o (vec_items c.loop-rest.events) c.loop-rest.all) (ap (option_map (λ x. x.now)) c.in-Some.is) c.loop-rest.invariant in
-    done_more text _ _ _ (vec_items c.loop-rest.events) (vec_items c.take-word.new.events) c.loop-rest.all c.in-ok-here.here c.part.ensures d c.in-ok-here.ensures
+    done_more text _ _ _ (vec_items c.loop-rest.events) (vec_items c.take-word.new.events) c.loop-rest.all c.in_ok-here.here c.part.ensures d c.in_ok-here.ensures
 
 pub returns-then-all : goal.returns-then-all
 returns-then-all c =
     let text = c.args.text.now in
-    let d = subst (λ o. Done text o (vec_items c.loop-rest.events) c.loop-rest.all) (ap (option_map (λ x. x.now)) c.in-default.is) c.loop-rest.invariant in
+    let d = subst (λ o. Done text o (vec_items c.loop-rest.events) c.loop-rest.all) (ap (option_map (λ x. x.now)) c.in_default.is) c.loop-rest.invariant in
     let h = done_all text (vec_items c.loop-rest.events) c.loop-rest.all d in
     let k = h.2 c.if-all.true in
     (h.0, h.1, k.0, k.1)
@@ -45,6 +45,6 @@ returns-then-all c =
 pub returns-else-all : goal.returns-else-all
 returns-else-all c =
     let text = c.args.text.now in
-    let d = subst (λ o. Done text o (vec_items c.loop-rest.events) c.loop-rest.all) (ap (option_map (λ x. x.now)) c.in-default.is) c.loop-rest.invariant in
+    let d = subst (λ o. Done text o (vec_items c.loop-rest.events) c.loop-rest.all) (ap (option_map (λ x. x.now)) c.in_default.is) c.loop-rest.invariant in
     let h = done_all text (vec_items c.loop-rest.events) c.loop-rest.all d in
     (h.0, h.1, h.3 c.if-all.false)

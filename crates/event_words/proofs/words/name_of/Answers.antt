@@ -18,21 +18,21 @@ named_parts word first rest n h k =
 some_not_none : (o : Option (List ℕ)) (d : List ℕ) → o ≡ None → o ≡ Some d → ⊥
 some_not_none o d e f = let z : ◌≡◌ {A = ℕ} 0 1 = cc in omega arith
 
-pub returns-in-default : goal.returns-in-default
-returns-in-default c = λ n h.
+pub returns-in_default : goal.returns-in_default
+returns-in_default c = λ n h.
     let k = named_parts _ _ _ n c.part.ensures h in
-    some_not_none (option_map (λ x. x.now) c.part.result.rest) k.0 (ap (option_map (λ x. x.now)) c.in-default.is) k.1
+    some_not_none (option_map (λ x. x.now) c.part.result.rest) k.0 (ap (option_map (λ x. x.now)) c.in_default.is) k.1
 
-pub returns-in-default-saturated : goal.returns-in-default-saturated
-returns-in-default-saturated c = λ n h.
+pub returns-in_default-saturated : goal.returns-in_default-saturated
+returns-in_default-saturated c = λ n h.
     let k = named_parts _ _ _ n c.part.ensures h in
-    c.in-default-saturated.ensures n.machine k.2
+    c.in_default-saturated.ensures n.machine k.2
 
-pub returns-in-default-saturated-2 : goal.returns-in-default-saturated-2
-returns-in-default-saturated-2 c = λ n h.
+pub returns-in_default-saturated-2 : goal.returns-in_default-saturated-2
+returns-in_default-saturated-2 c = λ n h.
     let k = named_parts _ _ _ n c.part.ensures h in
     let e : k.0 ≡ c.in-Some.digits.now = one k.0 c.in-Some.digits.now (sym k.1 ∙ ap (option_map (λ x. x.now)) c.in-Some.is) in
-    c.in-default-saturated-2.ensures n.kind (subst (λ d. Number d n.kind) e k.3)
+    c.in_default-saturated-2.ensures n.kind (subst (λ d. Number d n.kind) e k.3)
   where
     one : (d e : List ℕ) → Some d ≡ Some e → d ≡ e
     one d e h = cc

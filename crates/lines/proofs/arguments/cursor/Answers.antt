@@ -2,9 +2,9 @@ use Rattle.lines.proofs.Leading.{led_answers}
 use Rattle.lines.proofs.Refusing.{err_case}
 use Rattle.lines.proofs.arguments.cursor.Goals as goal
 
-pub returns-in-err-number : goal.returns-in-err-number
-returns-in-err-number c =
-    err_case _ _ c.from-residual.result c.from-residual.ensures.0 (λ _ k h. c.in-err-number.ensures h.0 h.1 h.2)
+pub returns-in_err-number : goal.returns-in_err-number
+returns-in_err-number c =
+    err_case _ _ c.from-residual.result c.from-residual.ensures.0 (λ _ k h. c.in_err-number.ensures h.0 h.1 h.2)
 
 pub returns : goal.returns
-returns c = led_answers _ _ _ _ c.in-ok-number.ensures c.plain.result c.plain.ensures
+returns c = led_answers _ _ _ _ c.in_ok-number.ensures c.plain.result c.plain.ensures

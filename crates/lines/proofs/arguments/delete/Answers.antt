@@ -1,6 +1,6 @@
 use Rattle.lines.proofs.Refusing.{err_case}
 use Rattle.lines.proofs.arguments.delete.Goals as goal
 
-pub returns-in-err-rule : goal.returns-in-err-rule
-returns-in-err-rule c =
-    err_case _ _ c.from-residual.result c.from-residual.ensures.0 (λ _ k h. c.in-err-rule.ensures h.0 h.1 h.3 h.4)
+pub returns-in_err-rule : goal.returns-in_err-rule
+returns-in_err-rule c =
+    err_case _ _ c.from-residual.result c.from-residual.ensures.0 (λ _ k h. c.in_err-rule.ensures h.0 h.1 h.3 h.4)

@@ -5,14 +5,14 @@ use Rattle.lines.proofs.Leading.{leads_parted, parted_leads}
 use Rattle.lines.proofs.Refusing.{err_case}
 use Rattle.lines.proofs.arguments.leading.Goals as goal
 
-pub returns-in-err-number : goal.returns-in-err-number
-returns-in-err-number c =
+pub returns-in_err-number : goal.returns-in_err-number
+returns-in_err-number c =
     err_case _ _ c.from-residual.result c.from-residual.ensures.0
     (λ _ n more h.
     let k = subst (λ r. Leads r n more) (ap (option_map (λ x. x.now)) c.in-Some.is) h in
-    c.in-err-number.ensures n (leads_parted _ _ _ more n c.part.ensures k))
+    c.in_err-number.ensures n (leads_parted _ _ _ more n c.part.ensures k))
 
 pub returns : goal.returns
 returns c =
-    let h = parted_leads _ _ _ _ c.part.ensures c.in-ok-number.ensures in
-    subst (λ r. Leads r c.in-ok-number.number (option_map (λ x. x.now) c.part.result.rest)) (sym (ap (option_map (λ x. x.now)) c.in-Some.is)) h
+    let h = parted_leads _ _ _ _ c.part.ensures c.in_ok-number.ensures in
+    subst (λ r. Leads r c.in_ok-number.number (option_map (λ x. x.now) c.part.result.rest)) (sym (ap (option_map (λ x. x.now)) c.in-Some.is)) h

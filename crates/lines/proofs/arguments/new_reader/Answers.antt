@@ -13,12 +13,12 @@ named : (whole : Option (List ℕ)) (text first : List ℕ) (rest : Option (List
     → whole ≡ Some (book_word b ++ (32 ∷ d)) → (first ≡ book_word b) × (rest ≡ Some d)
 named whole text first rest e parts b d h = one_parting 32 text first (book_word b) rest (Some d) parts (book_no_space b, cc)
 
-pub returns-in-err-book : goal.returns-in-err-book
-returns-in-err-book c =
+pub returns-in_err-book : goal.returns-in_err-book
+returns-in_err-book c =
     err_case _ _ c.from-residual.result c.from-residual.ensures.0
-    (λ _ k h. c.in-err-book.ensures h.0 (named _ _ _ _ (ap (option_map (λ x. x.now)) c.in-Some.is) c.part.ensures h.0 h.2 h.4).0)
+    (λ _ k h. c.in_err-book.ensures h.0 (named _ _ _ _ (ap (option_map (λ x. x.now)) c.in-Some.is) c.part.ensures h.0 h.2 h.4).0)
 
-pub returns-in-err-edition : goal.returns-in-err-edition
-returns-in-err-edition c =
-    err_case _ _ c.from-residual-in-err-edition.result c.from-residual-in-err-edition.ensures.0
-    (λ _ k h. c.in-err-edition.ensures h.1 h.2 (named _ _ _ _ (ap (option_map (λ x. x.now)) c.in-Some.is) c.part.ensures h.0 h.2 h.4).1 h.5)
+pub returns-in_err-edition : goal.returns-in_err-edition
+returns-in_err-edition c =
+    err_case _ _ c.from-residual-in_err-edition.result c.from-residual-in_err-edition.ensures.0
+    (λ _ k h. c.in_err-edition.ensures h.1 h.2 (named _ _ _ _ (ap (option_map (λ x. x.now)) c.in-Some.is) c.part.ensures h.0 h.2 h.4).1 h.5)

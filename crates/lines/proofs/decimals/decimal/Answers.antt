@@ -5,11 +5,11 @@ use Rattle.std.proofs.lemmas.List.{take_all}
 use Rattle.std.proofs.lemmas.Str.Parse.{digit_at}
 use Rattle.lines.proofs.decimals.decimal.Goals as goal
 
-pub returns-in-default : goal.returns-in-default
-returns-in-default c =
+pub returns-in_default : goal.returns-in_default
+returns-in_default c =
     λ h.
     let d = digit_at c.args.digits.now c.loop-byte.byte-index h.1 (omega arith) in
-    let f = c.in-default.ensures.cases (omega arith) (omega arith) in
+    let f = c.in_default.ensures.cases (omega arith) (omega arith) in
     omega arith
 
 pub loop-byte-preserved : goal.loop-byte-preserved

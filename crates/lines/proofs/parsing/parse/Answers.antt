@@ -29,8 +29,8 @@ module _ (line first : List ℕ) (rest : Option (List ℕ)) (parts : Parts 32 li
       let f = first_word c k in
       h c (subst (λ v. Makes v rest c) (one_word f.0 w (sym f.1 ∙ is)) f.2)
 
-pub returns-in-default : goal.returns-in-default
-returns-in-default c = λ k h. let f = first_word _ _ _ c.part.ensures k h in c.in-default.ensures f.0 f.1
+pub returns-in_default : goal.returns-in_default
+returns-in_default c = λ k h. let f = first_word _ _ _ c.part.ensures k h in c.in_default.ensures f.0 f.1
 
 pub returns : goal.returns
 returns c = answered _ _ _ c.part.ensures c.in-Some.word c.in-Some.ensures c.with-arguments.result c.with-arguments.ensures

@@ -19,7 +19,7 @@ loop-member-preserved-in-Member-default c =
 pub returns : goal.returns
 returns c =
     all_read (members c.args.end c.args.body.now) c.loop-member.set c.with-held.result c.loop-member.held
-    (subst (λ t. Holding (members c.args.end c.args.body.now) c.loop-member.set (pending c.loop-member.held ++ members c.args.end t)) c.in-default.ensures c.loop-member.invariant.0) c.with-held.ensures
+    (subst (λ t. Holding (members c.args.end c.args.body.now) c.loop-member.set (pending c.loop-member.held ++ members c.args.end t)) c.in_default.ensures c.loop-member.invariant.0) c.with-held.ensures
 
 pub loop-member-preserved-else-member : goal.loop-member-preserved-else-member
 loop-member-preserved-else-member c =

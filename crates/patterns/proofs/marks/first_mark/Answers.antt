@@ -19,8 +19,8 @@ pub returns-in-LoneEscape : goal.returns-in-LoneEscape
 returns-in-LoneEscape c =
     unmarked _ c.args.text.now 91 _ _ (lead c.args.text.now 91 (search rules) c.in-91.is) (ap (classed c.args.place (rest c.args.text.now)) (sym c.in-LoneEscape.ensures.value))
 
-pub returns-in-default-first : goal.returns-in-default-first
-returns-in-default-first c =
+pub returns-in_default-first : goal.returns-in_default-first
+returns-in_default-first c =
     marked _ c.args.text.now (get_or c.args.text.now 0 0) _ _ _ (front c.args.text.now (search rules)) (plain_cut _ _ _ (search rules) (search rules) (search rules)) refl (omega arith)
 
 pub returns-in-124 : goal.returns-in-124

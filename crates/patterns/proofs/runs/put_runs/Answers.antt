@@ -1,15 +1,15 @@
 use Rattle.std.proofs.Common.{◌≡◌, sym, ap, ◌∙◌, subst, arith, rules}
 use Rattle.patterns.proofs.Running.{Going, skipped, grows, ends, moved, all_some, all_none}
 use Rattle.patterns.proofs.runs.put_runs.Goals as goal
-use Rattle.patterns.proofs.runs.put_runs.Goals.{then-is-in+in-Some, then-is-in+in-default, else-is-in}
+use Rattle.patterns.proofs.runs.put_runs.Goals.{then-is-in+in-Some, then-is-in+in_default, else-is-in}
 
 pub loop-byte-preserved : goal.loop-byte-preserved
 loop-byte-preserved c =
     elim c.if-is-in.branch [
       | then-is-in+in-Some w ↦ moved _ _ _ _ w.last-is w.more-is w.out-is w.filled-is
           (ends _ _ _ _ _ _ _ _ _ _ _ _ _ (sym c.is-in.ensures ∙ w.if-is-in.true) w.grow-ended.ensures w.in-Some.is c.loop-byte.invariant w.put-run.ensures)
-      | then-is-in+in-default w ↦ moved _ _ _ _ w.last-is w.more-is w.out-is w.filled-is
-          (grows _ _ _ _ _ _ _ _ _ _ (sym c.is-in.ensures ∙ w.if-is-in.true) w.grow-ended.ensures w.in-default.is c.loop-byte.invariant)
+      | then-is-in+in_default w ↦ moved _ _ _ _ w.last-is w.more-is w.out-is w.filled-is
+          (grows _ _ _ _ _ _ _ _ _ _ (sym c.is-in.ensures ∙ w.if-is-in.true) w.grow-ended.ensures w.in_default.is c.loop-byte.invariant)
       | else-is-in w ↦ moved _ _ _ _ w.last-is w.more-is w.out-is w.filled-is
           (skipped _ _ _ _ _ _ _ _ (sym c.is-in.ensures ∙ w.if-is-in.false) c.loop-byte.invariant)
     ]

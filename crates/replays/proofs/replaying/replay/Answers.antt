@@ -10,7 +10,7 @@ loop-ask-init g c = (replaying_none _ _ _ _ c.new-log.ensures.items, refl)
 
 pub loop-ask-preserved : goal.loop-ask-preserved
 loop-ask-preserved g c = (
-  replaying_more _ _ _ c.in-Some.ask c.perform.result c.loop-ask.invariant.0 c.perform.ensures c.in-ok-push.ensures.items,
+  replaying_more _ _ _ c.in-Some.ask c.perform.result c.loop-ask.invariant.0 c.perform.ensures c.in_ok-push.ensures.items,
   c.loop-ask.invariant.1 ∙ ap (λ xs. c.loop-ask.yielded ++ xs) c.in-Some.ensures.steps.0 ∙ sym (append_assoc c.loop-ask.yielded (c.in-Some.ask ∷ []) _),
 )
 

@@ -50,13 +50,13 @@ broken u m NoMemory s t s' t' b a b' a' e h = tt
 pub loop-symbol-init : goal.loop-symbol-init
 loop-symbol-init g c = ((([], sym (append-nil (string_bytes c.args.out.now)), none)), c.if-is-none.ensures)
 
-pub returns-in-err-feed-next : goal.returns-in-err-feed-next
-returns-in-err-feed-next g c =
+pub returns-in_err-feed-next : goal.returns-in_err-feed-next
+returns-in_err-feed-next g c =
     let model = g.B.Book.model in
     let code = g.Symbol.Symbol.code in
-    err_by _ _ c.in-err-feed-next.field-0.0 c.from-residual.result c.from-residual.ensures.1
-    (broken (use_of model code c.args.self.now) (use_of model code c.loop-symbol.self) c.in-err-feed-next.field-0.0 c.loop-symbol.self c.feed-next.new.self c.args.self.now c.feed-next.new.self
-    (string_bytes c.loop-symbol.out) (string_bytes c.feed-next.new.out) (string_bytes c.args.out.now) (string_bytes c.feed-next.new.out) c.loop-symbol.invariant.1 c.in-err-feed-next.ensures)
+    err_by _ _ c.in_err-feed-next.field-0.0 c.from-residual.result c.from-residual.ensures.1
+    (broken (use_of model code c.args.self.now) (use_of model code c.loop-symbol.self) c.in_err-feed-next.field-0.0 c.loop-symbol.self c.feed-next.new.self c.args.self.now c.feed-next.new.self
+    (string_bytes c.loop-symbol.out) (string_bytes c.feed-next.new.out) (string_bytes c.args.out.now) (string_bytes c.feed-next.new.out) c.loop-symbol.invariant.1 c.in_err-feed-next.ensures)
 
 pub loop-symbol-preserved : goal.loop-symbol-preserved
 loop-symbol-preserved g c =
@@ -68,7 +68,7 @@ loop-symbol-preserved g c =
     let w = use_of model code c.feed-next.new.self in
     let x = c.symbol-item.result in
     let l : i < length xs = omega arith in
-    let h = subst (λ on. Answers (FeedsNext (code x) on m w) (string_bytes c.loop-symbol.out) (string_bytes c.feed-next.new.out)) c.if-not-branch.false c.in-ok-feed-next.ensures in (
+    let h = subst (λ on. Answers (FeedsNext (code x) on m w) (string_bytes c.loop-symbol.out) (string_bytes c.feed-next.new.out)) c.if-not-branch.false c.in_ok-feed-next.ensures in (
       fed_more (use_of model code c.args.self.now) m w (string_bytes c.args.out.now) (string_bytes c.loop-symbol.out) (string_bytes c.feed-next.new.out) (map code xs) i (code x)
           (subst (λ n. i < n) (sym (length-map xs code)) l) (code_at code xs i x l c.symbol-item.is) c.loop-symbol.invariant.0 h,
       ap (λ (v : Use). is_some v.walk) h.2.1.after,
@@ -84,7 +84,7 @@ returns-then-not-branch g c =
     let w = use_of model code c.feed-next.new.self in
     let x = c.symbol-item.result in
     let l : i < length xs = omega arith in
-    let h = subst (λ on. Answers (FeedsNext (code x) on m w) (string_bytes c.loop-symbol.out) (string_bytes c.feed-next.new.out)) c.if-not-branch.true c.in-ok-feed-next.ensures in
+    let h = subst (λ on. Answers (FeedsNext (code x) on m w) (string_bytes c.loop-symbol.out) (string_bytes c.feed-next.new.out)) c.if-not-branch.true c.in_ok-feed-next.ensures in
     with_walk _ _ _ _ c.if-is-none.ensures (fed_until (use_of model code c.args.self.now) m w (string_bytes c.args.out.now) (string_bytes c.loop-symbol.out) (string_bytes c.feed-next.new.out) (map code xs) i (code x)
     (subst (λ n. i < n) (sym (length-map xs code)) l) (code_at code xs i x l c.symbol-item.is) c.loop-symbol.invariant.0 h)
 

@@ -8,10 +8,10 @@ use Rattle.answers.specs.Texts.{feed_line, refused_line}
 use Rattle.contexts.specs.Contexts.{use_of}
 use Rattle.contexts.proofs.context.Context.feed_next.Goals as goal
 
-pub returns-in-ok-fed : goal.returns-in-ok-fed
-returns-in-ok-fed g c = (
+pub returns-in_ok-fed : goal.returns-in_ok-fed
+returns-in_ok-fed g c = (
   feed_line c.in-Ok.fed.worked,
-  c.in-ok-fed.ensures,
+  c.in_ok-fed.ensures,
   (
     c.in-Ok.fed,
     record {
@@ -25,8 +25,8 @@ returns-in-ok-fed g c = (
   ),
 )
 
-pub returns-in-ok-refused : goal.returns-in-ok-refused
-returns-in-ok-refused g c =
+pub returns-in_ok-refused : goal.returns-in_ok-refused
+returns-in_ok-refused g c =
     let model = g.B.Book.model in
     let u = use_of model g.Symbol.Symbol.code c.args.self.now in
     let walk = c.in-Some.walk in
@@ -34,7 +34,7 @@ returns-in-ok-refused g c =
     let h = c.in-Err.ensures in
     let here = sym c.in-Some.ensures.value in (
       refused_line c.tell.result,
-      c.in-ok-refused.ensures,
+      c.in_ok-refused.ensures,
       (
         ap (λ x. record { reader = view model x; cursor = u.cursor; walk = Some back.walk }) h.back.1
             ∙ ap (λ k. record { reader = u.reader; cursor = u.cursor; walk = k }) (ap Some h.back.0 ∙ sym here),

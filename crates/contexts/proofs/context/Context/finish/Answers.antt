@@ -3,11 +3,11 @@ use Rattle.answers.specs.Texts.{finish_line, refused_line}
 use Rattle.contexts.specs.Contexts.{use_of}
 use Rattle.contexts.proofs.context.Context.finish.Goals as goal
 
-pub returns-in-ok-finished : goal.returns-in-ok-finished
-returns-in-ok-finished g c =
+pub returns-in_ok-finished : goal.returns-in_ok-finished
+returns-in_ok-finished g c =
     let model = g.B.Book.model in (
       finish_line (model c.book.result.now).meaning.kind c.in-Ok.rules,
-      c.in-ok-finished.ensures,
+      c.in_ok-finished.ensures,
       record {
         walk = c.in-Some.walk;
         here = sym c.in-Some.ensures.value;
@@ -18,11 +18,11 @@ returns-in-ok-finished g c =
       },
     )
 
-pub returns-in-ok-refused : goal.returns-in-ok-refused
-returns-in-ok-refused g c =
+pub returns-in_ok-refused : goal.returns-in_ok-refused
+returns-in_ok-refused g c =
     let model = g.B.Book.model in (
       refused_line c.tell.result,
-      c.in-ok-refused.ensures,
+      c.in_ok-refused.ensures,
       record {
         walk = c.in-Some.walk;
         here = sym c.in-Some.ensures.value;

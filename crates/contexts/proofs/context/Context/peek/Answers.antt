@@ -5,15 +5,15 @@ use Rattle.answers.specs.Texts.{refused_line, token_line}
 use Rattle.contexts.specs.Contexts.{marker_of, use_of}
 use Rattle.contexts.proofs.context.Context.peek.Goals as goal
 
-pub returns-in-ok-token : goal.returns-in-ok-token
-returns-in-ok-token g c =
+pub returns-in_ok-token : goal.returns-in_ok-token
+returns-in_ok-token g c =
     let model = g.B.Book.model in
     let code = g.Symbol.Symbol.code in
     let u = use_of model code c.args.self.now in
     let v = view model c.peek-token.new.reader in
     let t = c.in-Ok.token in (
       token_line (codes "peek") (model c.book.result.now).meaning.kind t.place t.length t.rules t.count,
-      c.in-ok-token.ensures,
+      c.in_ok-token.ensures,
       record {
         cursor = marker_of code c.in-Some.track;
         here = ap (option_map (marker_of code)) c.in-Some.is;
@@ -25,14 +25,14 @@ returns-in-ok-token g c =
       },
     )
 
-pub returns-in-ok-refused : goal.returns-in-ok-refused
-returns-in-ok-refused g c =
+pub returns-in_ok-refused : goal.returns-in_ok-refused
+returns-in_ok-refused g c =
     let model = g.B.Book.model in
     let code = g.Symbol.Symbol.code in
     let u = use_of model code c.args.self.now in
     let v = view model c.peek-token.new.reader in (
       refused_line c.tell.result,
-      c.in-ok-refused.ensures,
+      c.in_ok-refused.ensures,
       record {
         cursor = marker_of code c.in-Some.track;
         here = ap (option_map (marker_of code)) c.in-Some.is;

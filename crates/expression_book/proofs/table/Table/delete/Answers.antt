@@ -8,8 +8,8 @@ use Rattle.expression_book.proofs.Deleted.{delete_alike, deleted, delete_texts}
 use Rattle.expression_book.proofs.Added.{table_additive}
 use Rattle.expression_book.proofs.table.Table.delete.Goals as goal
 
-pub overflow-cast-rule : goal.overflow-cast-rule
-overflow-cast-rule c =
+pub overflow_cast-rule : goal.overflow_cast-rule
+overflow_cast-rule c =
     let there = sym (ap is_some c.kind.ensures) ∙ c.if-is-none.ensures in
     let low = rule_below c.args.self.now c.args.rule there in
     omega arith

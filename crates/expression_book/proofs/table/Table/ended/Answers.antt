@@ -26,4 +26,4 @@ returns c =
     let t = c.args.self.now in
     let met = c.meet-rest.result in
     ended_made t c.args.state met c.loop-p.out c.meet-rest.ensures
-    (gather_all (rule_of t) (has met) (has c.loop-p.rest) (has_rule c.loop-p.out) c.loop-p.invariant c.in-default.ensures.0)
+    (gather_all (rule_of t) (has met) (has c.loop-p.rest) (has_rule c.loop-p.out) c.loop-p.invariant c.in_default.ensures.0)

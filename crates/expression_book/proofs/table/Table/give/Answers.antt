@@ -9,8 +9,8 @@ use Rattle.expression_book.specs.Rows.{blank}
 use Rattle.expression_book.proofs.Grown.{size_more, give_inside, give_owned, give_followed, give_follows, give_together}
 use Rattle.expression_book.proofs.table.Table.give.Goals as goal
 
-pub invariant-of-self : goal.invariant-of-self
-invariant-of-self c =
+pub invariant_of-self : goal.invariant_of-self
+invariant_of-self c =
     let a = c.args.self.now in
     let at = c.lowest-free-at.result in
     let w : Row = record { rule = c.args.rule; low = c.args.low; high = c.args.high; follow = c.empty.result } in

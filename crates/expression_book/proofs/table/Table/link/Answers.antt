@@ -5,8 +5,8 @@ use Rattle.expression_book.specs.Laws.{rule_at}
 use Rattle.expression_book.proofs.Grown.{link_rule, link_follower}
 use Rattle.expression_book.proofs.table.Table.link.Goals as goal
 
-pub invariant-of-self : goal.invariant-of-self
-invariant-of-self c =
+pub invariant_of-self : goal.invariant_of-self
+invariant_of-self c =
     let a = c.args.self.now in
     let rows = c.link.new.rows in
     let rule = link_rule a rows c.args.last c.args.first c.link.ensures.linked c.link.ensures.kept in

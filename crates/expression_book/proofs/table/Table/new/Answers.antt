@@ -5,8 +5,8 @@ use Rattle.expression_book.specs.declared.row.Row.{Row}
 use Rattle.expression_book.proofs.Made.{nones, blanks, ends_none}
 use Rattle.expression_book.proofs.table.Table.new.Goals as goal
 
-pub invariant-of-result : goal.invariant-of-result
-invariant-of-result c =
+pub invariant_of-result : goal.invariant_of-result
+invariant_of-result c =
     let none = c.empty-none.ensures in (
       (refl, refl),
       (

@@ -25,4 +25,4 @@ pub returns : goal.returns
 returns c =
     let t = c.args.self.now in
     next_made t c.args.state c.loop-p.out c.args.code
-    (gather_all (leads t.rows c.args.code) (has c.args.state) (has c.loop-p.rest) (has c.loop-p.out) c.loop-p.invariant c.in-default.ensures.0)
+    (gather_all (leads t.rows c.args.code) (has c.args.state) (has c.loop-p.rest) (has c.loop-p.out) c.loop-p.invariant c.in_default.ensures.0)

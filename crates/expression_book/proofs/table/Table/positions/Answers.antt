@@ -40,4 +40,4 @@ pub returns : goal.returns
 returns c =
     let t = c.args.self.now in
     positions_made t c.args.rule c.loop-p.out
-    (gather_all (itself t c.args.rule) (has t.live) (has c.loop-p.rest) (has c.loop-p.out) c.loop-p.invariant c.in-default.ensures.0)
+    (gather_all (itself t c.args.rule) (has t.live) (has c.loop-p.rest) (has c.loop-p.out) c.loop-p.invariant c.in_default.ensures.0)

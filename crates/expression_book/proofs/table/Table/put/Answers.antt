@@ -6,8 +6,8 @@ use Rattle.expression_book.proofs.Grown.{kind_owned}
 use Rattle.expression_book.proofs.Finished.{body, body_copy, distinct, link_live, link_follows, link_together, end_rows, end_beside, first_live, end_live, started, ended_with}
 use Rattle.expression_book.proofs.table.Table.put.Goals as goal
 
-pub invariant-of-self : goal.invariant-of-self
-invariant-of-self c =
+pub invariant_of-self : goal.invariant_of-self
+invariant_of-self c =
     let a = c.args.self.now in
     let r = c.args.rule in
     let k = c.args.kind in
@@ -29,8 +29,8 @@ link-requires c =
       together = link_together _ c.args.rule _ _ _ e _ _ b c.give.ensures c.symbol-end.ensures;
     }
 
-pub invariant-of-self-2 : goal.invariant-of-self-2
-invariant-of-self-2 c =
+pub invariant_of-self-2 : goal.invariant_of-self-2
+invariant_of-self-2 c =
     let t = c.link.new.self in
     let (e, spelled, room) = c.requires.roomy in
     let b = (c.build-part.ensures e spelled).0 in (

@@ -4,8 +4,8 @@ use Rattle.expression_book.specs.Tables.{owns}
 use Rattle.expression_book.proofs.Removed.{kinds_small, removal_owned, removal_inside, removal_followed, removal_follows, removal_together}
 use Rattle.expression_book.proofs.table.Table.remove.Goals as goal
 
-pub invariant-of-self : goal.invariant-of-self
-invariant-of-self c =
+pub invariant_of-self : goal.invariant_of-self
+invariant_of-self c =
     let a = c.args.self.now in
     let r = c.args.rule in
     let is = c.positions-gone.ensures in

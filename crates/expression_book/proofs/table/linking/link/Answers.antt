@@ -30,6 +30,6 @@ returns c =
     let inv = c.loop-p.invariant in
     record {
       size = inv.size ∙ c.told-rows;
-      linked = λ p h. inv.done p h (c.in-default.ensures.0 p);
+      linked = λ p h. inv.done p h (c.in_default.ensures.0 p);
       kept = inv.kept;
     }

@@ -5,9 +5,9 @@ use Rattle.kept.proofs.Zipped.{length_some, distinct_some}
 use Rattle.kept.proofs.Tables.{steps_few, steps_distinct}
 use Rattle.kept.proofs.kept.Kept.drop_touching.Goals as goal
 
-pub invariant-of-self : goal.invariant-of-self
+pub invariant_of-self : goal.invariant_of-self
 unfolding steps
-invariant-of-self c =
+invariant_of-self c =
     let t = c.args.self.now in
     let rows = c.drop-rows.ensures.rows in
     let few : vec_len c.drop-rows.new.codes ≤ most = omega (arith, length_some _ _ _ _ (steps t) (omega arith) (omega arith) rows, steps_few t) in

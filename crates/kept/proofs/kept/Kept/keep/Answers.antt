@@ -15,8 +15,8 @@ pub returns-then-is-some : goal.returns-then-is-some
 returns-then-is-some c = sym (keep_there _ (step c.args.state c.args.code c.args.next)
     (sym (ap is_some c.find.ensures) ∙ sym c.is-some.ensures ∙ c.if-is-some.true))
 
-pub invariant-of-self : goal.invariant-of-self
-invariant-of-self c =
+pub invariant_of-self : goal.invariant_of-self
+invariant_of-self c =
     let t = c.args.self.now in
     let none = sym c.find.ensures ∙ none_from_is_some _ (sym c.if-is-some.ensures) in
     let more = pushed t _ _ _ c.args.code c.args.state c.args.next

@@ -7,32 +7,32 @@ use Rattle.reader.specs.View.{view}
 use Rattle.reader.proofs.Changes.{same_reader, asks_book, last_edition}
 use Rattle.reader.proofs.reader.Reader.add.Goals as goal
 
-pub returns-in-err-edition : goal.returns-in-err-edition
-returns-in-err-edition g c =
+pub returns-in_err-edition : goal.returns-in_err-edition
+returns-in_err-edition g c =
     let p = err_from_is_err_and c.from-residual.result c.from-residual.ensures.1 in
-    let h = c.in-err-edition.ensures in
+    let h = c.in_err-edition.ensures in
     rw (p.1, p.2, h.1) (record {
       answer = sym (last_edition _ _ h.0);
       acts = inl (h.0, record { tells = refl; count = refl; same = refl });
       same = refl;
     })
 
-pub returns-in-err-add : goal.returns-in-err-add
-returns-in-err-add g c =
-    let p = err_from_is_err_and c.from-residual-in-err-add.result c.from-residual-in-err-add.ensures.1 in
-    let room = c.in-ok-edition.ensures.0 in
-    let h = c.in-err-add.ensures in
+pub returns-in_err-add : goal.returns-in_err-add
+returns-in_err-add g c =
+    let p = err_from_is_err_and c.from-residual-in_err-add.result c.from-residual-in_err-add.ensures.1 in
+    let room = c.in_ok-edition.ensures.0 in
+    let h = c.in_err-add.ensures in
     let same = same_reader c.args.self.now c.add.new.self _ _ h.change in
     rw (p.1, p.2) (record {
       answer = ap (option_map Book) h.answer ∙ sym (asks_book _ _ room);
-      acts = inr (inl (room, (c.in-err-add.field-0.0, sym h.answer, record { tells = refl; count = refl; same = ap (view g.B.Book.model) same })));
+      acts = inr (inl (room, (c.in_err-add.field-0.0, sym h.answer, record { tells = refl; count = refl; same = ap (view g.B.Book.model) same })));
       same = same;
     })
 
 pub returns : goal.returns
 returns g c =
-    let e = c.in-ok-edition.ensures in
-    let h = c.in-ok-add.ensures in
+    let e = c.in_ok-edition.ensures in
+    let h = c.in_ok-add.ensures in
     record {
       answer = ap (option_map Book) h.answer ∙ sym (asks_book _ _ e.0);
       acts = inr (inr (record {

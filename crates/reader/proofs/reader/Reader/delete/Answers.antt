@@ -8,33 +8,33 @@ use Rattle.reader.specs.View.{view}
 use Rattle.reader.proofs.Changes.{same_reader, asks_book, last_edition, absent_is}
 use Rattle.reader.proofs.reader.Reader.delete.Goals as goal
 
-pub returns-in-err-edition : goal.returns-in-err-edition
-returns-in-err-edition g c =
+pub returns-in_err-edition : goal.returns-in_err-edition
+returns-in_err-edition g c =
     let p = err_from_is_err_and c.from-residual.result c.from-residual.ensures.1 in
-    let h = c.in-err-edition.ensures in
+    let h = c.in_err-edition.ensures in
     rw (p.1, p.2, h.1) (record {
       answer = sym (last_edition _ _ h.0);
       acts = inl (h.0, record { tells = refl; count = refl; same = refl });
       same = refl;
     })
 
-pub returns-in-err-delete : goal.returns-in-err-delete
-returns-in-err-delete g c =
-    let p = err_from_is_err_and c.from-residual-in-err-delete.result c.from-residual-in-err-delete.ensures.1 in
-    let room = c.in-ok-edition.ensures.0 in
-    let h = c.in-err-delete.ensures in
+pub returns-in_err-delete : goal.returns-in_err-delete
+returns-in_err-delete g c =
+    let p = err_from_is_err_and c.from-residual-in_err-delete.result c.from-residual-in_err-delete.ensures.1 in
+    let room = c.in_ok-edition.ensures.0 in
+    let h = c.in_err-delete.ensures in
     let same = same_reader c.args.self.now c.delete.new.self _ _ h.change in
     let absent = absent_is (g.B.Book.model c.args.self.now.book).meaning c.args.rule _ h.answer in
     rw (p.1, p.2) (record {
       answer = ap (option_map Book) h.answer ∙ sym (asks_book _ _ room);
-      acts = inr (inl (room, (c.in-err-delete.field-0.0, absent, record { tells = refl; count = refl; same = ap (view g.B.Book.model) same })));
+      acts = inr (inl (room, (c.in_err-delete.field-0.0, absent, record { tells = refl; count = refl; same = ap (view g.B.Book.model) same })));
       same = same;
     })
 
 pub returns : goal.returns
 returns g c =
-    let e = c.in-ok-edition.ensures in
-    let h = c.in-ok-delete.ensures in
+    let e = c.in_ok-edition.ensures in
+    let h = c.in_ok-delete.ensures in
     record {
       answer = ap (option_map Book) h.answer ∙ sym (asks_book _ _ e.0);
       acts = inr (inr (record {

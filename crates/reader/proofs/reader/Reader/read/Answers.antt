@@ -13,8 +13,8 @@ use Rattle.reader.proofs.reader.Reader.read.Goals.{then-taken, else-taken, else-
 pub loop-symbol-init : goal.loop-symbol-init
 loop-symbol-init g c = (onward_none _ _ _ c.args.self.now.fits, omega arith)
 
-pub overflow-add-count : goal.overflow-add-count
-overflow-add-count g c = search rules
+pub overflow_add-count : goal.overflow_add-count
+overflow_add-count g c = search rules
 
 pub loop-symbol-preserved : goal.loop-symbol-preserved
 loop-symbol-preserved g c =

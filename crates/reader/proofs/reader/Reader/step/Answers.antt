@@ -22,7 +22,7 @@ returns g c =
     let s = c.args.state in
     let code = g.Symbol.Symbol.code c.args.symbol in
     let e : found v.kept s code ≡ None =
-    ap (found v.kept s) (sym c.code-code.ensures.value) ∙ sym c.find.ensures ∙ c.in-default.is in
+    ap (found v.kept s) (sym c.code-code.ensures.value) ∙ sym c.find.ensures ∙ c.in_default.is in
     record {
       state = c.next-next.ensures.value ∙ asked_goes v s code c.requires e;
       works = asked_works v _ s code e c.next-next.ensures.after

@@ -19,9 +19,9 @@ spelled line c s t before after (Err (Malformed x)) h k = (inr (c, h, k.0), k.1,
 spelled line c s t before after (Err NoMemory) h k = tt
 
 pub run-requires : goal.run-requires
-run-requires c = spells_decodable c.args.line.now c.in-ok-command.command c.in-ok-command.ensures
+run-requires c = spells_decodable c.args.line.now c.in_ok-command.command c.in_ok-command.ensures
 
 pub returns : goal.returns
 returns c =
-    spelled c.args.line.now c.in-ok-command.command c.args.self.now c.run.new.self (string_bytes c.args.out.now) (string_bytes c.run.new.out) c.run.result
-    c.in-ok-command.ensures c.run.ensures
+    spelled c.args.line.now c.in_ok-command.command c.args.self.now c.run.new.self (string_bytes c.args.out.now) (string_bytes c.run.new.out) c.run.result
+    c.in_ok-command.ensures c.run.ensures

@@ -3,8 +3,8 @@ use Rattle.std.proofs.lemmas.Bool.{both_ways, and_left}
 use Rattle.templates.proofs.Invariants.{nones, takes_none, ends_none}
 use Rattle.templates.proofs.book.TemplateBook.new.Goals as goal
 
-pub invariant-of-result : goal.invariant-of-result
-invariant-of-result c =
+pub invariant_of-result : goal.invariant_of-result
+invariant_of-result c =
     let none = c.empty-none.ensures in (
       (refl, refl),
       (

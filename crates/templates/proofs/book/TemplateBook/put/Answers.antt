@@ -3,8 +3,8 @@ use Rattle.states.specs.Sets.{has}
 use Rattle.templates.proofs.Invariants.{kinds_small, put_lives, put_starts, put_ending, put_taking}
 use Rattle.templates.proofs.book.TemplateBook.put.Goals as goal
 
-pub invariant-of-self : goal.invariant-of-self
-invariant-of-self c =
+pub invariant_of-self : goal.invariant_of-self
+invariant_of-self c =
     let a = c.args.self.now in
     let r = c.args.rule in
     let k = c.args.kind in

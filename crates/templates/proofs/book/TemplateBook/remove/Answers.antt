@@ -4,8 +4,8 @@ use Rattle.templates.specs.Tables.{at}
 use Rattle.templates.proofs.Invariants.{kinds_small, removal_lives, removal_starts, removal_ending, removal_taking}
 use Rattle.templates.proofs.book.TemplateBook.remove.Goals as goal
 
-pub invariant-of-self : goal.invariant-of-self
-invariant-of-self c =
+pub invariant_of-self : goal.invariant_of-self
+invariant_of-self c =
     let a = c.args.self.now in
     let r = c.args.rule in
     let low = c.requires in

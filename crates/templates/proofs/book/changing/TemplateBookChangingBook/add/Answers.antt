@@ -18,7 +18,7 @@ returns c =
     let put = c.put.ensures in
     let is = add_template a b r k t low free short put.kinds put.takes put.ends in
     record {
-      answer = c.in-default.ensures;
+      answer = c.in_default.ensures;
       change = record { meaning = added a b r k t low free short put.kinds put.takes put.ends; note = put.note; noted = refl };
       grown = record {
         template = is;

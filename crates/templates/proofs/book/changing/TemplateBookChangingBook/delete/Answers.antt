@@ -5,8 +5,8 @@ use Rattle.templates.proofs.Alike.{others}
 use Rattle.templates.proofs.Changes.{deleted, delete_texts, delete_alike}
 use Rattle.templates.proofs.book.changing.TemplateBookChangingBook.delete.Goals as goal
 
-pub overflow-cast-rule : goal.overflow-cast-rule
-overflow-cast-rule c =
+pub overflow_cast-rule : goal.overflow_cast-rule
+overflow_cast-rule c =
     let there = sym (ap is_some c.kind.ensures) ∙ c.if-is-none.ensures in
     let low = rule_below c.args.self.now c.args.rule there in
     omega arith

@@ -19,4 +19,4 @@ pub returns : goal.returns
 returns c =
     let met = c.meet-rest.result in
     ended_made c.args.self.now c.args.state met c.loop-p.out c.meet-rest.ensures
-    (gather_all rule_of (has met) (has c.loop-p.rest) (has_rule c.loop-p.out) c.loop-p.invariant c.in-default.ensures.0)
+    (gather_all rule_of (has met) (has c.loop-p.rest) (has_rule c.loop-p.out) c.loop-p.invariant c.in_default.ensures.0)
