@@ -2,8 +2,7 @@
 #![tactic(auto)]
 
 use anyhow::anyhow;
-use lines::BookName;
-use scripts::{Script, Session};
+use scripts::{BookName, Script, Session};
 use std::io::Read;
 use std::{env, fs, io};
 
@@ -31,7 +30,7 @@ fn write(rt: &HostRuntime, out: &mut String, errors: &mut String) -> io::Result<
 fn run(rt: &HostRuntime) -> anyhow::Result<bool> {
     let heap = rt.alloc();
     let text = script_text(rt)?;
-    let session = Session::new(heap, BookName::Expressions, 0)?;
+    let session = Session::new(heap, BookName::Numbers, 0)?;
     let mut script = Script::new(session, text.as_slice());
     let mut out = String::new(heap);
     let mut errors = String::new(heap);

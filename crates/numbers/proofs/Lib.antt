@@ -1,4 +1,3 @@
 mod Rows
 mod Ways
 mod Texts
-mod Expressed

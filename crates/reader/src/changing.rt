@@ -2,7 +2,7 @@ ghost use Rattle.std.specs.Prelude.{◌≡◌, ◌+◌, ◌<◌, MatchResult, On
 ghost use Rattle.std.specs.Result.{result_err};
 ghost use Rattle.books.specs.Changes.{delete_refusal};
 ghost use Rattle.books.specs.declared.refusal.Refusal.TheVariants.{LastEdition};
-ghost use Rattle.readings.specs.Calls.{final};
+ghost use Rattle.readings.specs.Calls.{Does, final};
 ghost use Rattle.readings.specs.Calls.Call.{add as adding, delete as deleting};
 ghost use Rattle.readings.specs.Changing.{Acts};
 ghost use Rattle.reader.specs.View.{view};
@@ -27,6 +27,7 @@ impl<B: ChangingBook> Reader<B> {
     // Puts a rule in force, and answers the new edition.
     pub fn add(&mut self, rule: u32, kind: u32, bytes: &[u8]) -> Result<u32, Refusal>
         ensures answer { result_err result ≡ change_refusal self.old.edition (B.ChangingBook.refusal (B.Book.model self.old.book).meaning rule kind bytes.now) }
+        ensures does { Does (adding rule kind bytes.now) (change_told result) 0 (view B.Book.model self.old) (view B.Book.model self.new) }
         ensures acts { Acts B.ChangingBook.refusal B.ChangingBook.grows B.ChangingBook.shrinks (adding rule kind bytes.now) (change_told result) 0
             (view B.Book.model self.old) (view B.Book.model self.new) }
         ensures same { OnErr result (self.new ≡ self.old) }
@@ -40,6 +41,7 @@ impl<B: ChangingBook> Reader<B> {
     // Takes a rule out of force with every kept step from a state that holds a position of it, and answers the new edition.
     pub fn delete(&mut self, rule: u32) -> Result<u32, Refusal>
         ensures answer { result_err result ≡ change_refusal self.old.edition (delete_refusal (B.Book.model self.old.book).meaning rule) }
+        ensures does { Does (deleting rule) (change_told result) 0 (view B.Book.model self.old) (view B.Book.model self.new) }
         ensures acts { Acts B.ChangingBook.refusal B.ChangingBook.grows B.ChangingBook.shrinks (deleting rule) (change_told result) 0
             (view B.Book.model self.old) (view B.Book.model self.new) }
         ensures same { OnErr result (self.new ≡ self.old) }

@@ -7,9 +7,9 @@ use Rattle.readings.specs.Views.{View}
 use Rattle.readings.specs.Readings.{Told}
 use Rattle.readings.specs.Calls.{Call, ChangesOr, Does}
 use Rattle.readings.specs.Calls.Call.{read, add, delete, begin, finish}
-use Rattle.readings.specs.Changing.{AddedBy, DeletedBy, Acts}
+use Rattle.readings.specs.Changing.{AddedBy, DeletedBy, Acts, Chain}
 use Rattle.readings.specs.Entries.{Entry}
-use Rattle.readings.specs.Histories.{Chain, History}
+use Rattle.readings.specs.Histories.{History}
 
 -- a change for fewer causes, of which less is known
 weaker : {P Q : BookFault → Type 0} {C D : Meaning → Meaning → Type 0} {steps : List Step} {t : Told} {n : ℕ} {v w : View} →

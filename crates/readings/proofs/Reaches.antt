@@ -4,7 +4,7 @@ use Rattle.readings.specs.Views.{View}
 use Rattle.readings.specs.Readings.{Told}
 use Rattle.readings.specs.Calls.{Call}
 use Rattle.readings.specs.Entries.{Entry}
-use Rattle.readings.specs.Histories.{Chain}
+use Rattle.readings.specs.Changing.{Chain}
 
 module _ (does : Call → Told → ℕ → View → View → Type 0) where
   -- the entries are calls of the reader v, which leave w

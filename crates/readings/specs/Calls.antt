@@ -59,14 +59,12 @@ ChangesOr because change steps t n v w =
     ((v.edition ≡ final) × Refuses LastEdition t n v w)
     ⊎ (((v.edition < final) × ((f : BookFault) × because f × Refuses (Book f) t n v w)) ⊎ Changes change steps t n v w)
 
--- An adding leaves every step kept.
-abbrev pub Adds : (BookFault → Type 0) → (Meaning → Meaning → Type 0) → Told → ℕ → View → View → Type 0
-Adds because change t n v w = ChangesOr because change v.kept t n v w
+abbrev pub Adds : ℕ → ℕ → Told → ℕ → View → View → Type 0
+Adds r k t n v w = ChangesOr (λ f. Unit {0}) (Added r k) v.kept t n v w
 
--- A deletion of rule r is refused by the book where the rule is not in force, and drops the steps from states that hold a position of it.
-abbrev pub Deletes : ℕ → (Meaning → Meaning → Type 0) → Told → ℕ → View → View → Type 0
-Deletes r change t n v w =
-    ChangesOr (λ f. (f ≡ Absent) × (is_some (v.book.meaning.kind r) ≡ false)) change (without v.book.meaning r v.kept) t n v w
+abbrev pub Deletes : ℕ → Told → ℕ → View → View → Type 0
+Deletes r t n v w =
+    ChangesOr (λ f. (f ≡ Absent) × (is_some (v.book.meaning.kind r) ≡ false)) (Deleted r) (without v.book.meaning r v.kept) t n v w
 
 -- a walk of this edition and state is this reader's: it carries its edition, and its positions are live
 abbrev pub Ours : View → ℕ → State → Type 0
@@ -82,10 +80,9 @@ ReadsAs (token text place) t n v w = Reads (token text place) t n v w
 ReadsAs (peek text place) t n v w = Reads (peek text place) t n v w
 ReadsAs (feed e s c) t n v w = IfOurs e s (Reads (feed e s c)) t n v w
 
--- over every book; adding is refused by the book for any fault
 abbrev pub Does : Call → Told → ℕ → View → View → Type 0
 Does (read x) t n v w = ReadsAs x t n v w
-Does (add r k bytes) t n v w = Adds (λ f. Unit {0}) (Added r k) t n v w
-Does (delete r) t n v w = Deletes r (Deleted r) t n v w
+Does (add r k bytes) t n v w = Adds r k t n v w
+Does (delete r) t n v w = Deletes r t n v w
 Does begin t n v w = Leaves t (walking v.edition v.book.meaning.start) n v w
 Does (finish e s) t n v w = IfOurs e s (λ t' n' v' w'. Leaves t' (ended (v'.book.meaning.ended s)) n' v' w') t n v w

@@ -4,18 +4,14 @@ use Rattle.std.specs.List.{AllByRecursion as All}
 use Rattle.books.specs.Meaning.{InForce}
 use Rattle.kept.specs.Steps.{most}
 use Rattle.readings.specs.Views.{View}
-use Rattle.readings.specs.Readings.{Reading, Told, Bare}
-use Rattle.readings.specs.Calls.{Call, Does}
+use Rattle.readings.specs.Readings.{Reading, Bare}
+use Rattle.readings.specs.Calls.{Does}
 use Rattle.readings.specs.Entries.{Entry, reading, is_changed, deleted, any_edition, met_in, counts, among, kept_after, unkept}
 
--- the entries are calls of the reader v, one after the other, each of which does what `does` says
-abbrev pub Chain : (Call → Told → ℕ → View → View → Type 0) → View → List Entry → Type 0
-Chain does v [] = Unit {0}
-Chain does v (e ∷ es) = (w : View) × (e.book ≡ v.book.meaning) × does e.call e.told e.count v w × Chain does w es
-
--- over every book
+-- the entries are calls of the reader v, one after the other
 abbrev pub History : View → List Entry → Type 0
-History v es = Chain Does v es
+History v [] = Unit {0}
+History v (e ∷ es) = (w : View) × (e.book ≡ v.book.meaning) × Does e.call e.told e.count v w × History w es
 
 -- no deletion of a rule in force at e was accepted in mid
 abbrev pub Stayed : Entry → List Entry → Type 0

@@ -3,7 +3,7 @@ pub mod Views
 pub mod Runs
 pub mod Readings
 pub mod Calls
-pub mod Changing
 pub mod Entries
+pub mod Changing
 pub mod Histories
 pub mod Example

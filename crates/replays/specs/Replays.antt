@@ -8,7 +8,8 @@ use Rattle.readings.specs.Readings.Told.{changed, ended, matched}
 use Rattle.readings.specs.Calls.{Call}
 use Rattle.readings.specs.Calls.Call.{read, add, delete, begin, finish}
 use Rattle.readings.specs.Entries.{Entry}
-use Rattle.readings.specs.Histories.{Chain, Stands}
+use Rattle.readings.specs.Changing.{Chain}
+use Rattle.readings.specs.Histories.{History, Stands}
 use Rattle.reader.specs.Answers.{walk_told}
 use Rattle.replays.specs.declared.log.Ask.{Ask}
 use Rattle.replays.specs.declared.log.Ask.TheVariants as ask
@@ -47,11 +48,20 @@ count_of (reply.Changed e) = 0
 count_of (reply.Refused e) = (told e).count
 count_of (reply.HandedBack h) = (told h.refusal).count
 
--- The log is a chain of exactly these calls of the reader v, each of which does what `does` says, and its readings stand.
-pub record Replayed {S : Type 0} (code : S → ℕ) (does : Call → Told → ℕ → View → View → Type 0) (v : View) (asks : List (Ask S)) (log : List Reply) : Type 0 where
+-- The log is a history of the reader v, of exactly these calls, and its readings stand.
+pub record Replayed {S : Type 0} (code : S → ℕ) (v : View) (asks : List (Ask S)) (log : List Reply) : Type 0 where
   pub entries : List Entry
   pub calls : map (λ (e : Entry). e.call) entries ≡ map (call_of code) asks
   pub tells : map (λ (e : Entry). e.told) entries ≡ map told_of log
   pub counts : map (λ (e : Entry). e.count) entries ≡ map count_of log
-  pub history : Chain does v entries
+  pub history : History v entries
+  pub stands : Stands entries
+
+-- The log is a chain of exactly these calls of the reader v, each of which does what `does` says, and its readings stand.
+pub record ReplayedBy {S : Type 0} (code : S → ℕ) (does : Call → Told → ℕ → View → View → Type 0) (v : View) (asks : List (Ask S)) (log : List Reply) : Type 0 where
+  pub entries : List Entry
+  pub calls : map (λ (e : Entry). e.call) entries ≡ map (call_of code) asks
+  pub tells : map (λ (e : Entry). e.told) entries ≡ map told_of log
+  pub counts : map (λ (e : Entry). e.count) entries ≡ map count_of log
+  pub chain : Chain does v entries
   pub stands : Stands entries

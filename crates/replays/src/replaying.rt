@@ -2,7 +2,7 @@ ghost use Rattle.std.specs.Prelude.{List, IfOk};
 ghost use Rattle.readings.specs.Views.{fresh};
 ghost use Rattle.readings.specs.Changing.{Acts};
 ghost use Rattle.reader.specs.View.{view};
-ghost use Rattle.replays.specs.Replays.{call_of, told_of, count_of, Replayed};
+ghost use Rattle.replays.specs.Replays.{call_of, told_of, count_of, Replayed, ReplayedBy};
 
 use crate::log::{Ask, Reply};
 use books::ChangingBook;
@@ -51,7 +51,8 @@ pub fn replay<B: ChangingBook + Drop>(
     edition: u32,
     asks: Vec<Ask<B::Symbol>>,
 ) -> Result<Vec<Reply>, AllocError>
-    ensures { IfOk result (λ log. Replayed B.Symbol.Symbol.code (Acts B.ChangingBook.refusal B.ChangingBook.grows B.ChangingBook.shrinks)
+    ensures history { IfOk result (λ log. Replayed B.Symbol.Symbol.code (fresh (B.Book.model book) edition) asks.items log.items) }
+    ensures acts { IfOk result (λ log. ReplayedBy B.Symbol.Symbol.code (Acts B.ChangingBook.refusal B.ChangingBook.grows B.ChangingBook.shrinks)
         (fresh (B.Book.model book) edition) asks.items log.items) }
 {
     let mut log = Vec::new(heap);

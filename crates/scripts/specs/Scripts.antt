@@ -1,16 +1,17 @@
 -- Running a script, line by line.
 use Rattle.std.specs.Prelude.{◌≡◌, ℕ, suc, ◌+◌, min, Bool, true, ◌⊎◌, List, [], ◌++◌, length, Some, None, Option}
-use Rattle.lines.specs.Parts.{Parts}
-use Rattle.lines.specs.Lines.{Skipped, Spells}
-use Rattle.answers.specs.Texts.{malformed_line}
-use Rattle.scripts.specs.Sessions.{Here, Runs, Unfit}
-use Rattle.lines.specs.declared.command.Expected.{Expected}
-use Rattle.lines.specs.declared.command.Command.{Command}
+use Rattle.readings.specs.Views.{View}
+use Rattle.scripts.specs.Parts.{Parts}
+use Rattle.scripts.specs.Lines.{Skipped, Spells}
+use Rattle.scripts.specs.Texts.{malformed_line}
+use Rattle.scripts.specs.Sessions.{Runs}
+use Rattle.scripts.specs.declared.command.Expected.{Expected}
+use Rattle.scripts.specs.declared.command.Command.{Command}
 
--- How far a script was run: what is in use, the lines that are left, if any, how many were passed, and whether one of
+-- How far a script was run: the reader in use, the lines that are left, if any, how many were passed, and whether one of
 -- those was malformed.
 pub record Place : Type 0 where
-  pub here : Here
+  pub reader : View
   pub rest : Option (List ℕ)
   pub line : ℕ
   pub malformed : Bool
@@ -27,18 +28,18 @@ pub record Written : Type 0 where
 
 -- the line is a comment
 abbrev Skips : List ℕ → Place → Place → Written → Type 0
-Skips line p q w = Skipped line × (q.here ≡ p.here) × (q.malformed ≡ p.malformed) × (w.answers ≡ []) × (w.reports ≡ [])
+Skips line p q w = Skipped line × (q.reader ≡ p.reader) × (q.malformed ≡ p.malformed) × (w.answers ≡ []) × (w.reports ≡ [])
 
 -- the line spells a command, which is run
 abbrev RunsLine : List ℕ → Place → Place → Written → Type 0
 RunsLine line p q w =
-    (Skipped line → ⊥) × (c : Command) × Spells line c × Runs c p.here q.here w.answers × (q.malformed ≡ p.malformed) × (w.reports ≡ [])
+    (Skipped line → ⊥) × (c : Command) × Spells line c × Runs c p.reader q.reader w.answers × (q.malformed ≡ p.malformed) × (w.reports ≡ [])
 
--- the line cannot be run, which is reported
+-- the line spells no command, which is reported
 abbrev Reports : List ℕ → Place → Place → Written → Type 0
 Reports line p q w =
-    (Skipped line → ⊥) × (expected : Expected) × Unfit line p.here expected × (q.here ≡ p.here) × (q.malformed ≡ true) × (w.answers ≡ [])
-    × (w.reports ≡ malformed_line q.line expected)
+    (Skipped line → ⊥) × ((c : Command) → Spells line c → ⊥) × (q.reader ≡ p.reader) × (q.malformed ≡ true) × (w.answers ≡ [])
+    × (expected : Expected) × (w.reports ≡ malformed_line q.line expected)
 
 -- one line is passed. A line ends at byte 10
 pub record Passes (p q : Place) (w : Written) : Type 0 where

@@ -1,40 +1,88 @@
-// Sessions, which run one line, and scripts, which run many.
+// The script language: which lines spell which command, the text of answers, and sessions that run scripts.
 #![tactic(auto)]
 
+pub mod answers;
+mod arguments;
+mod asking;
+mod command;
+mod decimals;
+mod fault;
+mod hex;
+mod lines;
+mod parts;
 mod script;
 mod session;
 
+pub use command::{BookName, Command, Expected};
+pub use decimals::{NoDecimal, decimal};
+pub use fault::Fault;
+pub use hex::{NoBytes, bytes_of, is_hex};
+pub use lines::{is_skipped, parse};
 pub use script::Script;
 pub use session::Session;
 
 #[cfg(test)]
 mod tests {
-    use crate::{Script, Session};
-    use lines::BookName;
+    use crate::{BookName, Script, Session, answers};
+    use books::{BookFault, Refusal};
+    use numbers::NumberBook;
+    use states::Rules;
     use std::test::Fail;
 
-    // Six lines cannot be run: they spell no command, or want what is not there. Each is reported by its number, and the
-    // lines behind it are run as if it were not there.
+    // Three lines spell no command. Each is reported by its number, and the lines behind it are run as if it were not there.
     #[test]
     fn reports_malformed_lines_and_goes_on(rt: HostRuntime) -> Result<(), Fail> {
         let heap = rt.alloc();
-        let text =
-            b"read 12.5mm\n\nreed 4800mm\ntally\nnew numbers 4294967296\nadd 0 1 k#\ntoken\nkind\nfeed 1\nread \n# end\nedition";
+        let text = b"read 12.5mm\n\nreed 4800mm\ntally\nnew numbers 4294967296\nkind\nedition";
         let mut script = Script::new(Session::new(heap, BookName::Numbers, 3)?, text);
         let mut out = String::new(heap);
         let mut errors = String::new(heap);
-        for _ in 0..12 {
+        for _ in 0..7 {
             script.run(heap, &mut out, &mut errors)?;
         }
         assert_eq!(rt;
             out.as_str(),
-            "read rules=0 kinds=1 count=6\ntally=6\nread rules=- kinds=- count=0\nedition=3\n"
+            "read rules=0 kinds=1 count=6\ntally=6\nedition=3\n"
         );
         assert_eq!(rt;
             errors.as_str(),
-            "line 3: expected a command\nline 5: expected an edition from 0 to 4294967295\nline 6: expected a book whose rules can be changed\nline 7: expected a cursor\nline 8: expected a decimal number\nline 9: expected a walk\n"
+            "line 3: expected a command\nline 5: expected an edition from 0 to 4294967295\nline 6: expected a decimal number\n"
         );
         assert!(rt; script.is_malformed());
+        Ok(())
+    }
+
+    // A space is enough of an argument for an empty text, and a comment is no line to report.
+    #[test]
+    fn reads_an_empty_text(rt: HostRuntime) -> Result<(), Fail> {
+        let heap = rt.alloc();
+        let mut script = Script::new(
+            Session::new(heap, BookName::Numbers, 0)?,
+            b"# nothing\nread \nreadx \n",
+        );
+        let mut out = String::new(heap);
+        let mut errors = String::new(heap);
+        assert!(rt; !script.run(heap, &mut out, &mut errors)?);
+        assert_eq!(rt;
+            out.as_str(),
+            "read rules=- kinds=- count=0\nread rules=- kinds=- count=0\n"
+        );
+        assert!(rt; !script.is_malformed());
+        Ok(())
+    }
+
+    #[test]
+    fn lists_rules_and_tells_refusals(rt: HostRuntime) -> Result<(), Fail> {
+        let mut out = String::new(rt.alloc());
+        let rules = Rules::single(63)
+            .union(Rules::single(0))
+            .union(Rules::single(7));
+        answers::read(&mut out, &NumberBook::new(), rules, 2)?;
+        answers::refused(&mut out, Refusal::Book(BookFault::Absent).tell())?;
+        assert_eq!(rt;
+            out.as_str(),
+            "read rules=0,7,63 kinds=1,-,- count=2\nrefused number=13 layer=2 place=0 count=0\n"
+        );
         Ok(())
     }
 }

@@ -1,11 +1,13 @@
 // A script and how far it was run.
 ghost use Rattle.std.specs.Prelude.{◌≡◌, ◌<◌, true, false, is_some, IfOk, Some, string_bytes, OnOk};
 ghost use Rattle.scripts.specs.Scripts.{Appends, Goes, Passes, left};
-ghost use Rattle.scripts.specs.Views.{here_of, place_of};
+ghost use Rattle.scripts.specs.Views.{place_of, session_view};
 
+use crate::answers;
+use crate::fault::Fault;
+use crate::lines::is_skipped;
+use crate::parts::{NEWLINE, Parted, part};
 use crate::session::Session;
-use contexts::Fault;
-use lines::{NEWLINE, Parted, is_skipped, part};
 use std::alloc::{AllocError, Global};
 
 // With so many bytes of answers a program stops to write them.
@@ -23,7 +25,7 @@ pub struct Script<'s> {
 impl<'s> Script<'s> {
     // A script of which no line was passed.
     pub fn new(session: Session, text: &'s [u8]) -> Script<'s>
-        ensures { place_of result ≡ record { here = here_of session; rest = Some text.now; line = 0; malformed = false } }
+        ensures { place_of result ≡ record { reader = session_view session; rest = Some text.now; line = 0; malformed = false } }
     {
         Script {
             session,

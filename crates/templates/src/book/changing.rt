@@ -1,8 +1,10 @@
 // Adding templates to the book and deleting them.
-ghost use Rattle.std.specs.Prelude.{◌≡◌, MatchResult, OnOk};
+ghost use Rattle.std.specs.Prelude.{◌≡◌, ℕ, true, false, ◌↔◌, List, MatchResult, OnOk};
 ghost use Rattle.std.specs.Result.{result_err};
+ghost use Rattle.states.specs.Sets.{has_rule};
 ghost use Rattle.books.specs.Changes.{Added, Deleted, Changed, delete_refusal};
-ghost use Rattle.templates.specs.Templates.{TemplateAdded, TemplateDeleted, template_refusal};
+ghost use Rattle.books.specs.Texts.{meets};
+ghost use Rattle.templates.specs.Templates.{Fits, OthersStay, Template, TemplateAdded, TemplateDeleted, template_refusal};
 ghost use Rattle.templates.specs.contracts.book.reading.TemplateBookBook.TheImpl.{ghosts as reading};
 
 use crate::book::{RULES, TemplateBook};
@@ -48,6 +50,10 @@ impl ChangingBook for TemplateBook {
         ensures change { MatchResult result
             (λ _. Changed (Added rule kind) (reading.model self.old) (reading.model self.new))
             (λ _. self.new ≡ self.old) }
+        ensures template { OnOk result (Template rule bytes.now (reading.model self.new).meaning) }
+        ensures texts { OnOk result ((text : List ℕ) →
+            has_rule (meets (reading.model self.new).meaning text) rule ≡ true ↔ Fits bytes.now text) }
+        ensures others { OnOk result (OthersStay rule (reading.model self.old).meaning (reading.model self.new).meaning) }
         ensures grown { OnOk result (TemplateAdded rule bytes.now
             (reading.model self.old).meaning (reading.model self.new).meaning) }
     {
@@ -64,6 +70,8 @@ impl ChangingBook for TemplateBook {
         ensures change { MatchResult result
             (λ _. Changed (Deleted rule) (reading.model self.old) (reading.model self.new))
             (λ _. self.new ≡ self.old) }
+        ensures texts { OnOk result ((text : List ℕ) → has_rule (meets (reading.model self.new).meaning text) rule ≡ false) }
+        ensures others { OnOk result (OthersStay rule (reading.model self.old).meaning (reading.model self.new).meaning) }
         ensures shrunk { OnOk result (TemplateDeleted rule
             (reading.model self.old).meaning (reading.model self.new).meaning) }
     {

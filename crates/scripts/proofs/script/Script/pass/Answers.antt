@@ -1,8 +1,8 @@
 use Rattle.std.proofs.Common.{◌≡◌, [], string_bytes, sym, refl, ap, ◌∙◌, subst, inl, inr, append-nil}
 use Rattle.std.proofs.lemmas.Bool.{both_ways}
 use Rattle.scripts.specs.Sessions.{Unrun}
-use Rattle.answers.specs.Texts.{malformed_line}
-use Rattle.scripts.specs.Views.{here_of}
+use Rattle.scripts.specs.Texts.{malformed_line}
+use Rattle.scripts.specs.Views.{session_view}
 use Rattle.scripts.proofs.script.Script.pass.Goals as goal
 
 pub returns-then-is-skipped : goal.returns-then-is-skipped
@@ -38,7 +38,7 @@ returns-in-Ok c =
 
 pub returns-in-Ok-malformed : goal.returns-in-Ok-malformed
 returns-in-Ok-malformed c =
-    let h = subst (λ f. Unrun f c.part.result.first.now (here_of c.args.self.now.session) c.args.self.now.session c.run-line.new.self (string_bytes c.args.out.now) (string_bytes c.run-line.new.out)) c.in-Malformed.is c.in-Err.ensures in (
+    let h = subst (λ f. Unrun f c.part.result.first.now c.args.self.now.session c.run-line.new.self (string_bytes c.args.out.now) (string_bytes c.run-line.new.out)) c.in-Malformed.is c.in-Err.ensures in (
       record { answers = []; reports = malformed_line c.saturating-add-self.result c.in-Malformed.expected },
       h.2 ∙ sym (append-nil (string_bytes c.args.out.now)),
       c.in-Ok-malformed.ensures,
@@ -48,6 +48,6 @@ returns-in-Ok-malformed c =
         here = c.requires;
         parts = c.part.ensures;
         count = c.saturating-add-self.ensures;
-        done = inr (inr (λ k. both_ways _ c.if-is-skipped.false (c.is-skipped.ensures.1 k), c.in-Malformed.expected, h.0, ap here_of h.1, refl, refl, refl));
+        done = inr (inr (λ k. both_ways _ c.if-is-skipped.false (c.is-skipped.ensures.1 k), h.0, ap session_view h.1, refl, refl, c.in-Malformed.expected, refl));
       },
     )

@@ -1,27 +1,15 @@
-use Rattle.std.proofs.Common.{ℕ, List, Ok, Err, string_bytes, Result, inl, inr, MatchResult}
-use Rattle.lines.specs.Lines.{Spells}
-use Rattle.lines.specs.declared.command.Command.{Command}
-use Rattle.lines.proofs.Decoding.{spells_decodable}
-use Rattle.contexts.specs.Uses.{Answers}
-use Rattle.contexts.specs.declared.fault.Fault.{Fault}
-use Rattle.contexts.specs.declared.fault.Fault.TheVariants.{Malformed, NoMemory}
-use Rattle.scripts.specs.Sessions.{Lacks, Misses, Runs, Unrun}
-use Rattle.scripts.specs.Views.{here_of}
-use Rattle.scripts.specs.declared.session.Session.{Session}
+use Rattle.std.proofs.Common.{◌∙◌, subst}
+use Rattle.scripts.specs.Lines.{Spells}
+use Rattle.scripts.specs.Sessions.{ReadAnswer}
+use Rattle.scripts.specs.Views.{session_view}
+use Rattle.scripts.specs.declared.command.Command.TheVariants.{ReadHex}
 use Rattle.scripts.proofs.session.Session.run_line.Goals as goal
 
--- what is answered of a command is answered of the line that spells it
-spelled : (line : List ℕ) (c : Command) (s t : Session) (before after : List ℕ) (r : Result (Unit {0}) Fault) → Spells line c →
-    MatchResult r (λ _. Answers (Runs c (here_of s) (here_of t)) before after) (λ f. Misses (Lacks c (here_of s)) f s t before after) →
-    MatchResult r (λ _. (k : Command) × Spells line k × Answers (Runs k (here_of s) (here_of t)) before after) (λ f. Unrun f line (here_of s) s t before after)
-spelled line c s t before after (Ok x) h k = (c, h, k)
-spelled line c s t before after (Err (Malformed x)) h k = (inr (c, h, k.0), k.1, k.2)
-spelled line c s t before after (Err NoMemory) h k = tt
-
-pub run-requires : goal.run-requires
-run-requires c = spells_decodable c.args.line.now c.in_ok-command.command c.in_ok-command.ensures
-
-pub returns : goal.returns
-returns c =
-    spelled c.args.line.now c.in_ok-command.command c.args.self.now c.run.new.self (string_bytes c.args.out.now) (string_bytes c.run.new.out) c.run.result
-    c.in_ok-command.ensures c.run.ensures
+pub returns-in_ok-read-2 : goal.returns-in_ok-read-2
+returns-in_ok-read-2 c =
+    let spells = subst (Spells c.args.line.now) c.in-ReadHex.is c.in_ok-book.ensures in
+    let bytes = c.as-slice.ensures.value ∙ c.in_ok-bytes.ensures.1 in
+    let h = c.in_ok-read-2.ensures in
+    let v = session_view c.args.self.now in
+    let w = session_view c.read-in-ReadHex.new.self in
+    (ReadHex c.in-ReadHex.digits, spells, (h.0, h.1, subst (λ t. ReadAnswer t v w h.0) bytes h.2))
