@@ -9,10 +9,10 @@ pub invariant_of-self : goal.invariant_of-self
 unfolding steps
 invariant_of-self c =
     let t = c.args.self.now in
-    let rows = c.drop-rows.ensures.rows in
-    let few : vec_len c.drop-rows.new.codes ≤ most = omega (arith, length_some _ _ _ _ (steps t) (omega arith) (omega arith) rows, steps_few t) in
-    (search rules, (search rules, (few, (distinct_some _ _ _ _ (steps t) rows (steps_distinct t), tt))))
+    let rows = c.drop_rows.ensures.rows in
+    let few : vec_len c.drop_rows.new.codes ≤ most = omega (arith, length_some _ _ _ _ (steps t) (omega arith) (omega arith) rows, steps_few t) in
+    record { level = search rules; room = search rules; few = few; apart = distinct_some _ _ _ _ (steps t) rows (steps_distinct t) }
 
 pub returns : goal.returns
 unfolding steps
-returns c = c.drop-rows.ensures.rows
+returns c = c.drop_rows.ensures.rows

@@ -14,7 +14,7 @@ loop-i-preserved c =
     let within : i < length (steps t) = omega (arith, count_is t) in
     let past : from (at t i) c.args.state c.args.code ≡ false = elim c.else-index-code.branch [
       | else-index-code-via-then-index-code+else-eq w ↦ from_other_state (at t i) c.args.state _ c.args.code
-          (reads_state t i _ within w.index-then-index-code.ensures) w.if-eq.ensures.0
+          (reads_state t i _ within w.index-then-index-code.ensures) w.if-eq.ensures.value
       | else-index-code-via-else-index-code w ↦ from_other_code (at t i) c.args.state c.args.code _
           (reads_code t i _ within c.index.ensures) w.if-index-code.false
     ] in
@@ -26,7 +26,7 @@ returns-then-eq c =
     let i = c.loop-i.i in
     let within : i < length (steps t) = omega (arith, count_is t) in
     let here : from (at t i) c.args.state c.args.code ≡ true = from_both (at t i) c.args.state _ c.args.code _
-    (reads_state t i _ within c.index-then-index-code.ensures) c.if-eq.ensures.0
+    (reads_state t i _ within c.index-then-index-code.ensures) c.if-eq.ensures.value
     (reads_code t i _ within c.index.ensures) c.if-index-code.true in
     ap Some (sym (reads_next t i _ within c.index-then-eq.ensures)) ∙ sym (found_drop_here (steps t) i _ _ _ within here) ∙ c.loop-i.invariant
 
