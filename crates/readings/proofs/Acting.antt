@@ -7,7 +7,7 @@ use Rattle.readings.specs.Views.{View}
 use Rattle.readings.specs.Readings.{Told}
 use Rattle.readings.specs.Calls.{Call, ChangesOr, Does}
 use Rattle.readings.specs.Calls.Call.{read, add, delete, begin, finish}
-use Rattle.readings.specs.Changing.{AddedBy, DeletedBy, Acts, Chain}
+use Rattle.readings.specs.Changing.{Acts, Chain}
 use Rattle.readings.specs.Entries.{Entry}
 use Rattle.readings.specs.Histories.{History}
 
