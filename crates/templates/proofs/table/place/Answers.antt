@@ -7,10 +7,10 @@ loop-i-init c = (c.told-takes, place_none c.args.takes.now c.args.first c.args.t
 
 pub loop-i-preserved : goal.loop-i-preserved
 loop-i-preserved c =
-    let codes = c.codes-of-codes.result in (
+    let codes = c.codes_of-codes.result in (
       c.mark.array_long,
       place_more c.args.takes.now c.loop-i.takes c.mark.new.takes c.args.first c.args.template.now c.loop-i.i _ codes.low codes.end
-          c.loop-i.invariant.1 c.loop-i-test.true refl c.codes-of-codes.ensures c.mark.ensures,
+          c.loop-i.invariant.1 c.loop-i-test.true refl c.codes_of-codes.ensures c.mark.ensures,
     )
 
 pub returns : goal.returns

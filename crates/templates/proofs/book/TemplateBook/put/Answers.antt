@@ -10,19 +10,12 @@ invariant_of-self c =
     let k = c.args.kind in
     let t = c.args.bytes.now in
     let low = c.requires.number in
-    let written : (j : ℕ) → Some k ≡ Some j → j < 4096 = λ j e. let i : k ≡ j = cc in subst (λ (x : ℕ). x < 4096) i c.requires.small in (
-      (length-set a.kinds r (Some k) ∙ a.sizes.0, c.place.ensures.size),
-      (
-        kinds_small a r (Some k) low written,
-        (
-          λ p. c.union-self.ensures p ∙ ap (λ (x : Bool). has a.live p || x) (c.block.ensures p) ∙ put_lives a r k low p,
-          (
-            λ p. c.with-self.ensures p ∙ put_starts a r k low c.requires.free p,
-            (
-              λ p h. put_ending a r k low t c.requires.short p (sym (c.with-self-2.ensures p) ∙ h),
-              (λ q p h. put_taking a r k low t c.requires.short q p (sym (c.place.ensures.members q p) ∙ h), tt),
-            ),
-          ),
-        ),
-      ),
-    )
+    let written : (j : ℕ) → Some k ≡ Some j → j < 4096 = λ j e. let i : k ≡ j = cc in subst (λ (x : ℕ). x < 4096) i c.requires.small in
+    record {
+      sizes = (length-set a.kinds r (Some k) ∙ a.sizes.0, c.place.ensures.size);
+      small = kinds_small a r (Some k) low written;
+      lives = λ p. c.union-self.ensures p ∙ ap (λ (x : Bool). has a.live p || x) (c.block.ensures p) ∙ put_lives a r k low p;
+      starts = λ p. c.with-self.ensures p ∙ put_starts a r k low c.requires.free p;
+      ending = λ p h. put_ending a r k low t c.requires.short p (sym (c.with-self-2.ensures p) ∙ h);
+      taking = λ q p h. put_taking a r k low t c.requires.short q p (sym (c.place.ensures.members q p) ∙ h);
+    }

@@ -11,19 +11,12 @@ invariant_of-self c =
     let low = c.requires in
     let gone = c.block-gone.ensures in
     let less : (x : Bool) (p : ℕ) → (x && not (has c.block-gone.result p)) ≡ (x && not (eqb (p / 32) r)) = λ x p. ap (λ (y : Bool). x && not y) (gone p) in
-    let written : (j : ℕ) → None ≡ Some j → j < 4096 = λ j e. let z : ◌≡◌ {A = ℕ} 0 1 = cc in absurd (omega arith) in (
-      (length-set a.kinds r None ∙ a.sizes.0, c.clear.ensures.size),
-      (
-        kinds_small a r None low written,
-        (
-          λ p. c.without-self.ensures p ∙ less (has a.live p) p ∙ removal_lives a r low p,
-          (
-            λ p. c.without-self-2.ensures p ∙ less (has a.start p) p ∙ removal_starts a r low p,
-            (
-              λ p h. removal_ending a r low p (sym (c.without-self-3.ensures p ∙ less (has a.ends p) p) ∙ h),
-              (λ q p h. removal_taking a r low q p (sym (c.clear.ensures.members q p ∙ less (at a.takes q p) p) ∙ h), tt),
-            ),
-          ),
-        ),
-      ),
-    )
+    let written : (j : ℕ) → None ≡ Some j → j < 4096 = λ j e. let z : ◌≡◌ {A = ℕ} 0 1 = cc in absurd (omega arith) in
+    record {
+      sizes = (length-set a.kinds r None ∙ a.sizes.0, c.clear.ensures.size);
+      small = kinds_small a r None low written;
+      lives = λ p. c.without-self.ensures p ∙ less (has a.live p) p ∙ removal_lives a r low p;
+      starts = λ p. c.without-self-2.ensures p ∙ less (has a.start p) p ∙ removal_starts a r low p;
+      ending = λ p h. removal_ending a r low p (sym (c.without-self-3.ensures p ∙ less (has a.ends p) p) ∙ h);
+      taking = λ q p h. removal_taking a r low q p (sym (c.clear.ensures.members q p ∙ less (at a.takes q p) p) ∙ h);
+    }

@@ -17,12 +17,13 @@ returns c =
     let short : length t < 32 = search rules in
     let put = c.put.ensures in
     let is = add_template a b r k t low free short put.kinds put.takes put.ends in
+    let met = template_texts r t (meaning b) is short in
+    let stay = others r a b (add_alike a b r k t low free short put.kinds put.takes put.ends) in
     record {
       answer = c.in_default.ensures;
       change = record { meaning = added a b r k t low free short put.kinds put.takes put.ends; note = put.note; noted = refl };
-      grown = record {
-        template = is;
-        texts = template_texts r t (meaning b) is short;
-        others = others r a b (add_alike a b r k t low free short put.kinds put.takes put.ends);
-      };
+      template = is;
+      texts = met;
+      others = stay;
+      grown = record { template = is; texts = met; others = stay };
     }

@@ -11,7 +11,7 @@ pub loop-p-preserved : goal.loop-p-preserved
 loop-p-preserved c =
     let popped = c.in-Some.ensures in
     let out = c.loop-p.out in
-    gather_more rule_of (has c.meet-rest.result) (has c.loop-p.rest) (has c.pop-lowest.new.self) (has_rule out) (has_rule c.union-out.result) c.in-Some.p
+    gather_more rule_of (has c.meet-rest.result) (has c.loop-p.rest) (has c.pop_lowest.new.self) (has_rule out) (has_rule c.union-out.result) c.in-Some.p
     c.loop-p.invariant popped.0.member popped.1
     (λ q. c.union-out.ensures q ∙ ap (λ (b : Bool). has_rule out q || b) (c.single.ensures q))
 
