@@ -5,7 +5,6 @@ mod book;
 mod table;
 
 pub use book::NumberBook;
-use books::{Book, Noted};
 
 #[cfg(test)]
 mod tests {
