@@ -1,0 +1,2 @@
+mod Dispatch
+mod Running

@@ -1,0 +1,25 @@
+use Rattle.std.proofs.Common.{string_bytes, sym, refl, subst}
+use Rattle.contexts.specs.Uses.{Answers}
+use Rattle.sessions.specs.Sessions.{Codes, Within}
+use Rattle.sessions.specs.Views.{here_in}
+use Rattle.sessions.specs.declared.session.AnyContext.{AnyContext}
+use Rattle.sessions.specs.declared.session.AnyContext.TheVariants.{Templates, Expressions, Events}
+use Rattle.sessions.proofs.session.Session.code.Goals as goal
+
+pub returns-in_ok-add : goal.returns-in_ok-add
+returns-in_ok-add c =
+    let h = c.in_ok-add.ensures in
+    subst (λ (s : AnyContext). Answers (Within (Codes (here_in s).book c.args.rule c.args.kind c.args.bytes.now) (here_in s) (here_in (Templates c.add.new.self))) (string_bytes c.args.out.now) (string_bytes c.add.new.out))
+    (sym c.in-Templates.is) (h.0, h.1, (refl, h.2))
+
+pub returns-in_ok-add-2 : goal.returns-in_ok-add-2
+returns-in_ok-add-2 c =
+    let h = c.in_ok-add-2.ensures in
+    subst (λ (s : AnyContext). Answers (Within (Codes (here_in s).book c.args.rule c.args.kind c.args.bytes.now) (here_in s) (here_in (Expressions c.add-in-Expressions.new.self))) (string_bytes c.args.out.now) (string_bytes c.add-in-Expressions.new.out))
+    (sym c.in-Expressions.is) (h.0, h.1, (refl, h.2))
+
+pub returns-in_ok-add-3 : goal.returns-in_ok-add-3
+returns-in_ok-add-3 c =
+    let h = c.in_ok-add-3.ensures in
+    subst (λ (s : AnyContext). Answers (Within (Codes (here_in s).book c.args.rule c.args.kind c.args.bytes.now) (here_in s) (here_in (Events c.add-in-Events.new.self))) (string_bytes c.args.out.now) (string_bytes c.add-in-Events.new.out))
+    (sym c.in-Events.is) (h.0, h.1, (refl, h.2))

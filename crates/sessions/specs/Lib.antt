@@ -1,0 +1,4 @@
+-- Sessions and scripts.
+pub mod Sessions
+pub mod Scripts
+pub mod Views

@@ -1,0 +1,171 @@
+-- What a command does in a session, and the text of its answer.
+use Rattle.std.specs.Prelude.{◌≡◌, ℕ, false, ◌⊎◌, List, map, Some, None, codes, Option}
+use Rattle.std.specs.List.{AllByRecursion as All}
+use Rattle.states.specs.Sets.{has_rule}
+use Rattle.books.specs.Meaning.{Meaning, Model}
+use Rattle.books.specs.Refusals.{told}
+use Rattle.books.specs.declared.faults.BookFault.{BookFault}
+use Rattle.books.specs.declared.refusal.Refusal.TheVariants.{NoSuchEvent}
+use Rattle.books.specs.Texts.{meets}
+use Rattle.books.specs.Changes.{delete_refusal}
+use Rattle.readings.specs.Views.{fresh}
+use Rattle.readings.specs.Calls.Call.{add, delete}
+use Rattle.reader.specs.Answers.{change_refusal}
+use Rattle.numbers.specs.Number.{number_model}
+use Rattle.templates.specs.Templates.{template_refusal}
+use Rattle.expressions.specs.Rules.{refusal as expression-refusal}
+use Rattle.event_words.specs.Words.{InRange, Named, NamesEach, named_code, words}
+use Rattle.lines.specs.Hex.{written}
+use Rattle.lines.specs.Lines.{Spells}
+use Rattle.lines.specs.declared.command.BookName.{BookName}
+use Rattle.lines.specs.declared.command.BookName.TheVariants.{Numbers, Templates, Expressions, Events}
+use Rattle.lines.specs.declared.command.Expected.{Expected}
+use Rattle.lines.specs.declared.command.Expected.TheVariants as expected
+use Rattle.lines.specs.declared.command.Task.{Task}
+use Rattle.lines.specs.declared.command.Command.{Command}
+use Rattle.lines.specs.declared.command.Command.TheVariants as command
+use Rattle.answers.specs.Texts.{new_line, last_line, refused_line, shown_bytes, shown_events}
+use Rattle.contexts.specs.Uses.{Use, Changes, Obeys, Shows, Takes, wanting, wanting_cursor, wanting_for}
+use Rattle.contexts.specs.declared.fault.Fault.{Fault}
+use Rattle.contexts.specs.declared.fault.Fault.TheVariants.{Malformed, NoMemory}
+
+-- The name of the book in use, and the reader over it.
+pub record Here : Type 0 where
+  pub book : BookName
+  pub context : Use
+
+-- the reader changes as R says, over the same book
+abbrev pub Within : (Use → Use → List ℕ → Type 0) → Here → Here → List ℕ → Type 0
+Within R h k answer = (k.book ≡ h.book) × R h.context k.context answer
+
+-- a new reader, with no cursor and no walk
+abbrev pub new_use : Model → ℕ → Use
+new_use model edition = record { reader = fresh model edition; cursor = None; walk = None }
+
+-- ── Changes ──
+
+-- a rule is added by its bytes, which the book refuses as `refusal` says
+abbrev pub AddsBy : (Meaning → ℕ → ℕ → List ℕ → Option BookFault) → List ℕ → ℕ → ℕ → List ℕ → Use → Use → List ℕ → Type 0
+AddsBy refusal word rule kind bytes u w answer =
+    Changes word rule (add rule kind bytes) (change_refusal u.reader.edition (refusal u.reader.book.meaning rule kind bytes)) u w answer
+
+-- a rule is added to the book of this name by its own bytes
+abbrev pub Codes : BookName → ℕ → ℕ → List ℕ → Use → Use → List ℕ → Type 0
+Codes Numbers rule kind bytes u w answer = ⊥
+Codes Templates rule kind bytes u w answer = AddsBy template_refusal (codes "code") rule kind bytes u w answer
+Codes Expressions rule kind bytes u w answer = AddsBy (expression-refusal 255) (codes "code") rule kind bytes u w answer
+Codes Events rule kind bytes u w answer = AddsBy (expression-refusal 65535) (codes "code") rule kind bytes u w answer
+
+-- a rule is added to the book of this name by the text that a person types for it
+abbrev pub Adds : BookName → ℕ → ℕ → List ℕ → Use → Use → List ℕ → Type 0
+Adds Numbers rule kind text u w answer = ⊥
+Adds Templates rule kind text u w answer = AddsBy template_refusal (codes "add") rule kind text u w answer
+Adds Expressions rule kind text u w answer = ⊥
+Adds Events rule kind text u w answer = ⊥
+
+-- a rule of the book of this name is deleted
+abbrev DeletesRule : ℕ → Use → Use → List ℕ → Type 0
+DeletesRule rule u w answer =
+    Changes (codes "delete") rule (delete rule) (change_refusal u.reader.edition (delete_refusal u.reader.book.meaning rule)) u w answer
+
+abbrev pub Deletes : BookName → ℕ → Use → Use → List ℕ → Type 0
+Deletes Numbers rule u w answer = ⊥
+Deletes Templates rule u w answer = DeletesRule rule u w answer
+Deletes Expressions rule u w answer = DeletesRule rule u w answer
+Deletes Events rule u w answer = DeletesRule rule u w answer
+
+-- what a change of the book of this name wants: a book whose rules can be changed
+abbrev pub wanting_change : BookName → Option Expected
+wanting_change Numbers = Some expected.Changing
+wanting_change Templates = None
+wanting_change Expressions = None
+wanting_change Events = None
+
+-- and where a rule is added by what a person types, a book whose rules can be typed
+abbrev pub wanting_typed : BookName → Option Expected
+wanting_typed Numbers = Some expected.Changing
+wanting_typed Templates = None
+wanting_typed Expressions = Some expected.Code
+wanting_typed Events = Some expected.Code
+
+-- ── Texts ──
+
+-- Over events a text is words. Where one names no event, it is refused, and nothing else is done.
+pub data TakesEvents (task : Task) (text : List ℕ) (u w : Use) : List ℕ → Type 0 where
+  named : {answer : List ℕ} (ns : List Named) → NamesEach (words text) ns → All InRange ns → Takes task (map named_code ns) u w answer → TakesEvents task text u w answer
+  refused : (ns : List Named) → NamesEach (words text) ns → (All InRange ns → ⊥) → w ≡ u → TakesEvents task text u w (refused_line (told NoSuchEvent))
+
+-- what is done with a text over the book of this name
+abbrev pub TakesText : BookName → Task → List ℕ → Use → Use → List ℕ → Type 0
+TakesText Numbers task text u w answer = Takes task text u w answer
+TakesText Templates task text u w answer = Takes task text u w answer
+TakesText Expressions task text u w answer = Takes task text u w answer
+TakesText Events task text u w answer = TakesEvents task text u w answer
+
+-- what is expected of a text over events that is not taken: words, or what the task wants
+pub data LacksEvents (task : Task) (text : List ℕ) (u : Use) : Expected → Type 0 where
+  no_words : ((ns : List Named) → NamesEach (words text) ns → ⊥) → LacksEvents task text u expected.Events
+  wanted : {x : Expected} (ns : List Named) → NamesEach (words text) ns → All InRange ns → wanting_for task u ≡ Some x → LacksEvents task text u x
+
+abbrev pub LacksText : BookName → Task → List ℕ → Use → Expected → Type 0
+LacksText Numbers task text u x = wanting_for task u ≡ Some x
+LacksText Templates task text u x = wanting_for task u ≡ Some x
+LacksText Expressions task text u x = wanting_for task u ≡ Some x
+LacksText Events task text u x = LacksEvents task text u x
+
+-- how the last token is shown
+abbrev pub shown : BookName → List ℕ → List ℕ
+shown Numbers = shown_bytes
+shown Templates = shown_bytes
+shown Expressions = shown_bytes
+shown Events = shown_events
+
+-- ── Commands ──
+
+-- no rule is in force, no text meets one, and the book was not yet asked
+abbrev pub Blank : Model → Type 0
+Blank b = ((rule : ℕ) → b.meaning.kind rule ≡ None) × ((text : List ℕ) (rule : ℕ) → has_rule (meets b.meaning text) rule ≡ false) × (b.note ≡ 0)
+
+-- a new book of this name
+abbrev pub NewBook : BookName → Model → Type 0
+NewBook Numbers b = b ≡ number_model 0
+NewBook Templates b = Blank b
+NewBook Expressions b = Blank b
+NewBook Events b = Blank b
+
+-- a command is run and answered
+abbrev pub Runs : Command → Here → Here → List ℕ → Type 0
+Runs (command.New book edition) h k answer =
+    (b : Model) × NewBook book b × (k ≡ record { book = book; context = new_use b edition }) × (answer ≡ new_line book edition)
+Runs (command.Add rule kind text) h k answer = Within (Adds h.book rule kind text.now) h k answer
+Runs (command.Code rule kind digits) h k answer = Within (Codes h.book rule kind (written digits.now)) h k answer
+Runs (command.Delete rule) h k answer = Within (Deletes h.book rule) h k answer
+Runs (command.Plain task text) h k answer = Within (TakesText h.book task text.now) h k answer
+Runs (command.Hex task digits) h k answer = Within (TakesText h.book task (written digits.now)) h k answer
+Runs command.Last h k answer = Within (Shows (last_line (shown h.book))) h k answer
+Runs (command.Order order) h k answer = Within (Obeys order) h k answer
+
+-- x is what a command wants that is not there: a book that can be changed, or a cursor, or a walk, or words of events
+abbrev pub Lacks : Command → Here → Expected → Type 0
+Lacks (command.New book edition) h x = ⊥
+Lacks (command.Add rule kind text) h x = wanting_typed h.book ≡ Some x
+Lacks (command.Code rule kind digits) h x = wanting_change h.book ≡ Some x
+Lacks (command.Delete rule) h x = wanting_change h.book ≡ Some x
+Lacks (command.Plain task text) h x = LacksText h.book task text.now h.context x
+Lacks (command.Hex task digits) h x = LacksText h.book task (written digits.now) h.context x
+Lacks command.Last h x = wanting_cursor h.context ≡ Some x
+Lacks (command.Order order) h x = wanting order h.context ≡ Some x
+
+-- A command that lacks what is expected is not run, and changes nothing. Where there is no memory, the answer may be written in
+-- part.
+abbrev pub Misses : {S : Type 0} → (Expected → Type 0) → Fault → S → S → List ℕ → List ℕ → Type 0
+Misses lacks (Malformed x) s t before after = lacks x × (t ≡ s) × (after ≡ before)
+Misses lacks NoMemory s t before after = Unit {0}
+
+-- x is expected of a line that cannot be run: it spells no command, or one that lacks x
+abbrev pub Unfit : List ℕ → Here → Expected → Type 0
+Unfit line h x = ((c : Command) → Spells line c → ⊥) ⊎ ((c : Command) × Spells line c × Lacks c h x)
+
+-- A line is not run: where it cannot be, session and text stay as they were.
+abbrev pub Unrun : {S : Type 0} → Fault → List ℕ → Here → S → S → List ℕ → List ℕ → Type 0
+Unrun f line h s t before after = Misses (Unfit line h) f s t before after
