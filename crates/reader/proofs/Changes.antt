@@ -7,15 +7,14 @@ use Rattle.books.specs.Meaning.{Meaning}
 use Rattle.books.specs.Changes.{delete_refusal}
 use Rattle.books.specs.declared.faults.BookFault.{BookFault}
 use Rattle.books.specs.declared.faults.BookFault.TheVariants.{Absent}
-use Rattle.books.specs.declared.refusal.Refusal.{Refusal}
 use Rattle.books.specs.declared.refusal.Refusal.TheVariants.{LastEdition, Book}
 use Rattle.readings.specs.Calls.{final}
 use Rattle.reader.specs.declared.reader.Reader.{Reader}
 use Rattle.reader.specs.Answers.{change_refusal}
 
 -- a reader whose book is as it was is as it was
-pub same_reader : {B S : Type 0} (r : Reader B S) (b : B) (h : r.tally < 2 ^ 32) (k : r.edition < 2 ^ 32) → b ≡ r.book
-    → ◌≡◌ {A = Reader B S} (record { book = b; kept = r.kept; edition = r.edition; tally = r.tally; fits = h; editions = k }) r
+pub same_reader : {B S : Type 0} {p : _} {q : _} (r : Reader B S p q) (b : B) (h : r.tally < 2 ^ 32) (k : r.edition < 2 ^ 32) → b ≡ r.book
+    → ◌≡◌ {A = Reader B S p q} (record { book = b; kept = r.kept; edition = r.edition; tally = r.tally; fits = h; editions = k }) r
 same_reader r b h k e = λ i. record {
   book = e i;
   kept = r.kept;

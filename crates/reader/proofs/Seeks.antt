@@ -1,5 +1,5 @@
 -- What a search that is over tells.
-use Rattle.std.proofs.Common.{◌≡◌, ℕ, ◌-◌, ◌≤◌, eqb, List, map, length, take, drop, sym, refl, ap, ◌∙◌, subst, inl, inr, arith, length-drop, take_all}
+use Rattle.std.proofs.Common.{◌≡◌, ℕ, ◌-◌, eqb, List, map, length, take, drop, sym, ap, ◌∙◌, subst, inl, inr, arith, length-drop, take_all}
 use Rattle.std.proofs.lemmas.List.{drop-map}
 use Rattle.std.proofs.lemmas.Bool.{cases_eq, cond-true, cond-false, eq-eqb, ne_eqb}
 use Rattle.states.specs.declared.state.State.{State}

@@ -1,5 +1,5 @@
 -- What the answers of a reader's calls tell, and how many steps they say were worked out.
-use Rattle.std.specs.Prelude.{◌≡◌, ℕ, cond, Some, None, Ok, Err, Option, Result, ◌==◌}
+use Rattle.std.specs.Prelude.{ℕ, cond, Some, Ok, Err, Option, Result, ◌==◌}
 use Rattle.std.specs.Option.{option_map}
 use Rattle.states.specs.declared.rules.Rules.{Rules}
 use Rattle.books.specs.Refusals.{told}

@@ -42,8 +42,8 @@ impl<B: Book> Reader<B> {
     pub(crate) fn seek(&mut self, rest: &[B::Symbol]) -> Seen
         ensures bound { result.length ≤ length rest.now }
         ensures seeks { (text : List ℕ) (place : ℕ) → drop place text ≡ map B.Symbol.Symbol.code rest.now →
-            Reads (token text place) (seen_told place result) result.count (view model self.old) (view model self.new)
-            × Reads (peek text place) (seen_told place result) result.count (view model self.old) (view model self.new) }
+            Reads (token text place) (seen_told place result) result.count (view B.model self.old) (view B.model self.new)
+            × Reads (peek text place) (seen_told place result) result.count (view B.model self.old) (view B.model self.new) }
     {
         let mut state = self.book.start();
         let mut seen = Seen {

@@ -20,8 +20,8 @@ impl<B: Book> Reader<B> {
     // while there is room.
     pub(crate) fn step(&mut self, state: State, symbol: B::Symbol) -> Taken
         requires { is_empty state ≡ false }
-        ensures state { result.state ≡ goes (view model self.old) state (B.Symbol.Symbol.code symbol) }
-        ensures works { Works ((state, B.Symbol.Symbol.code symbol) ∷ []) (if result.worked then 1 else 0) (view model self.old) (view model self.new) }
+        ensures state { result.state ≡ goes (view B.model self.old) state (B.Symbol.Symbol.code symbol) }
+        ensures works { Works ((state, B.Symbol.Symbol.code symbol) ∷ []) (if result.worked then 1 else 0) (view B.model self.old) (view B.model self.new) }
     {
         let code = symbol.code();
         if let Some(next) = self.kept.find(state, code) {

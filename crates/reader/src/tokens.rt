@@ -31,8 +31,8 @@ impl<B: Book> Reader<B> {
     // Looks for the longest token at a place of a text, and moves the place to its end.
     fn advance(&mut self, text: &[B::Symbol], place: &mut usize) -> Result<Token, Refusal>
         requires { place.old ≤ length text.now }
-        ensures read_token { Reads (token (map B.Symbol.Symbol.code text.now) place.old) (token_told result) (token_count result) (view model self.old) (view model self.new) }
-        ensures peeked { Reads (peek (map B.Symbol.Symbol.code text.now) place.old) (token_told result) (token_count result) (view model self.old) (view model self.new) }
+        ensures read_token { Reads (token (map B.Symbol.Symbol.code text.now) place.old) (token_told result) (token_count result) (view B.model self.old) (view B.model self.new) }
+        ensures peeked { Reads (peek (map B.Symbol.Symbol.code text.now) place.old) (token_told result) (token_count result) (view B.model self.old) (view B.model self.new) }
         ensures moves { MatchResult result (λ t. (place.new ≡ place.old + t.length) × (t.place ≡ place.old)) (λ _. place.new ≡ place.old) }
         ensures bound { place.new ≤ length text.now }
     {
@@ -56,7 +56,7 @@ impl<B: Book> Reader<B> {
     // Reads the longest token at the cursor's place, and moves the cursor to its end. Refused where no beginning of the rest
     // but the empty one meets a rule; the cursor then stays.
     pub fn token(&mut self, cursor: &mut Cursor<'_, B::Symbol>) -> Result<Token, Refusal>
-        ensures does { Does (reads (token (codes_of B.Symbol.Symbol.code cursor.old) cursor.old.place)) (token_told result) (token_count result) (view model self.old) (view model self.new) }
+        ensures does { Does (reads (token (codes_of B.Symbol.Symbol.code cursor.old) cursor.old.place)) (token_told result) (token_count result) (view B.model self.old) (view B.model self.new) }
         ensures moves { MatchResult result (λ t. Moved cursor.old t cursor.new) (λ _. Unmoved cursor.old cursor.new) }
     {
         let text = cursor.text;
@@ -70,7 +70,7 @@ impl<B: Book> Reader<B> {
 
     // Answers as reading the next token would, and leaves the cursor where it was.
     pub fn peek(&mut self, cursor: &mut Cursor<'_, B::Symbol>) -> Result<Token, Refusal>
-        ensures does { Does (reads (peek (codes_of B.Symbol.Symbol.code cursor.old) cursor.old.place)) (token_told result) (token_count result) (view model self.old) (view model self.new) }
+        ensures does { Does (reads (peek (codes_of B.Symbol.Symbol.code cursor.old) cursor.old.place)) (token_told result) (token_count result) (view B.model self.old) (view B.model self.new) }
         ensures stays { Unmoved cursor.old cursor.new }
     {
         let text = cursor.text;

@@ -14,7 +14,7 @@ use symbols::Symbol;
 impl<B: Book> Reader<B> {
     // Begins a walk at the start state.
     pub fn begin(&self) -> Walk
-        ensures { Does beginning (walk_told result) 0 (view model self.now) (view model self.now) }
+        ensures { Does beginning (walk_told result) 0 (view B.model self.now) (view B.model self.now) }
     {
         Walk {
             state: self.book.start(),
@@ -24,14 +24,14 @@ impl<B: Book> Reader<B> {
 
     // Whether a walk carries this edition and its positions are live here.
     fn owns(&self, walk: &Walk) -> bool
-        ensures { Decides result (Ours (view model self.now) walk.now.edition walk.now.state) }
+        ensures { Decides result (Ours (view B.model self.now) walk.now.edition walk.now.state) }
     {
         walk.edition == self.edition && walk.state.within(self.book.live())
     }
 
     // Goes on by one symbol. A walk of another edition, or with positions that are not live here, is handed back.
     pub fn feed(&mut self, walk: Walk, symbol: B::Symbol) -> Result<Fed, HandedBack>
-        ensures does { Does (reads (feeding walk.edition walk.state (B.Symbol.Symbol.code symbol))) (fed_told result) (fed_count result) (view model self.old) (view model self.new) }
+        ensures does { Does (reads (feeding walk.edition walk.state (B.Symbol.Symbol.code symbol))) (fed_told result) (fed_count result) (view B.model self.old) (view B.model self.new) }
         ensures back { IfErr result (λ h. (h.walk ≡ walk) × (self.new ≡ self.old)) }
     {
         if !self.owns(&walk) {
@@ -58,7 +58,7 @@ impl<B: Book> Reader<B> {
 
     // Ends a walk, and answers the rules that its state ends. A walk that is not this reader's is handed back.
     pub fn finish(&self, walk: Walk) -> Result<Rules, HandedBack>
-        ensures does { Does (finishing walk.edition walk.state) (finish_told result) 0 (view model self.now) (view model self.now) }
+        ensures does { Does (finishing walk.edition walk.state) (finish_told result) 0 (view B.model self.now) (view B.model self.now) }
         ensures back { IfErr result (λ h. h.walk ≡ walk) }
     {
         if !self.owns(&walk) {

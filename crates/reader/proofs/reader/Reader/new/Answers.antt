@@ -1,5 +1,4 @@
-use Rattle.std.proofs.Common.{◌≡◌, refl, ap, rules}
-use Rattle.readings.specs.Views.{View}
+use Rattle.std.proofs.Common.{rules}
 use Rattle.readings.proofs.Stand.{stands}
 use Rattle.reader.proofs.reader.Reader.new.Goals as goal
 

@@ -7,6 +7,6 @@ use Rattle.reader.proofs.reader.Reader.read.Given as goal
 abbrev pub invariant-loop-symbol : goal.invariant-loop-symbol
 invariant-loop-symbol g l =
     let v = view g.B.Book.model in
-    let code = g.Symbol.Symbol.code in
+    let code = g.B.Symbol.Symbol.code in
     Onward (v l.initial.self) l.initial.state (map code l.text) (v l.self) l.state (map code (drop l.symbol-index l.text)) l.count
     × (l.count ≤ l.symbol-index)

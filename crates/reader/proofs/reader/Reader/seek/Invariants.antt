@@ -7,6 +7,6 @@ use Rattle.reader.proofs.reader.Reader.seek.Given as goal
 abbrev pub invariant-loop-i : goal.invariant-loop-i
 invariant-loop-i g l =
     let v = view g.B.Book.model in
-    let code = g.Symbol.Symbol.code in
+    let code = g.B.Symbol.Symbol.code in
     Sought (v l.initial.self) (map code l.rest) (v l.self) l.state (map code (drop l.i l.rest)) l.seen.count l.seen.length l.seen.rules
     × (l.seen.count ≤ l.i)
