@@ -1,22 +1,20 @@
 -- Books with the same rules are met by the same texts, have as many live positions, and refuse alike. Assumes nothing.
-use Rattle.std.proofs.Common.{◌≡◌, ℕ, ◌+◌, ◌<◌, Bool, true, false, cond, leb, ◌↔◌, List, length, is_some as option_is_some, Some, None, Ok, Err, Option, Result, sym, refl, ap, ◌∙◌, subst, ap₂, inl, inr}
+use Rattle.std.proofs.Common.{◌≡◌, ℕ, ◌+◌, false, cond, leb, List, length, is_some as option_is_some, Some, None, Ok, Err, Option, Result, sym, refl, ap, ◌∙◌, ap₂, inl, inr}
 use Rattle.std.proofs.lemmas.Bool.{both_ways, cases_Bool}
 use Rattle.states.specs.declared.state.State.{State}
-use Rattle.states.specs.declared.rules.Rules.{Rules}
 use Rattle.states.specs.Words.{tally}
-use Rattle.states.specs.Sets.{has, has_rule, no_rule}
+use Rattle.states.specs.Sets.{has_rule}
 use Rattle.states.proofs.Members.{same_rules}
-use Rattle.books.specs.Meaning.{Meaning, InForce, Lawful, is, touches}
-use Rattle.books.specs.Texts.{after, meets}
+use Rattle.books.specs.Meaning.{Meaning, Lawful, is, touches}
+use Rattle.books.specs.Texts.{meets}
 use Rattle.books.specs.declared.faults.CommandFault.{CommandFault}
 use Rattle.books.specs.declared.faults.BookFault.{BookFault}
 use Rattle.books.specs.declared.faults.BookFault.TheVariants.{Number, Kind, Taken, Length, Full}
-use Rattle.expressions.specs.Expression.{Plain, symbols, Denotes}
 use Rattle.expressions.specs.Commands.{read_all, counted}
-use Rattle.expressions.specs.Rules.{Means, Additive, SameRules, needed, live, refusal, room_for}
+use Rattle.expressions.specs.Rules.{Additive, SameRules, needed, live, refusal, room_for}
 use Rattle.expressions.proofs.Members.{same_test, is_some, touched}
 use Rattle.expressions.proofs.Texts.{meets_denoted}
-use Rattle.expressions.proofs.Counting.{tally_none, owned_count, sum, sum_same, live_count}
+use Rattle.expressions.proofs.Counting.{tally_none, owned_count, sum_same, live_count}
 
 -- ---- a rule that is not in force
 

@@ -1,6 +1,6 @@
 -- Followers stand beside each other at some join, or go round in some repeated part. Assumes nothing.
-use Rattle.std.proofs.Common.{◌≡◌, ℕ, ◌⊎◌, ◌↔◌, sym, refl, subst, inl, inr, arith}
-use Rattle.expressions.specs.Expression.{Expr, empty, symbol, join, either, star, plus, optional, Labelled}
+use Rattle.std.proofs.Common.{◌≡◌, ℕ, refl, subst, inl, inr, arith}
+use Rattle.expressions.specs.Expression.{empty, symbol, join, either, star, plus, optional, Labelled}
 use Rattle.expressions.specs.Positions.{First, Last, Follow, Inside, Beside, FollowsBeside}
 
 wider : (a e : Labelled) → ((x : Labelled) → Inside x a → Inside x e) → (p q : ℕ) → Beside a p q → Beside e p q

@@ -1,11 +1,11 @@
 -- How many positions a rule and a book have. Assumes nothing.
-use Rattle.std.proofs.Common.{◌≡◌, ℕ, zero, suc, ◌+◌, ◌<◌, ◌≤◌, Bool, true, false, cond, ◌||◌, eqb, ◌⊎◌, ◌↔◌, is_some as option_is_some, Some, None, Option, sym, refl, ap, ◌∙◌, subst, ap₂, inl, inr, add-zero, add_assoc, add_comm, arith}
-use Rattle.std.proofs.lemmas.Bool.{both_ways, cases_Bool, cases_eq, eqb-true, eq-eqb, ne_eqb, or_cases, or_left, or_right, or_from}
+use Rattle.std.proofs.Common.{◌≡◌, ℕ, zero, suc, ◌+◌, ◌<◌, Bool, true, false, cond, ◌||◌, eqb, is_some as option_is_some, Some, None, Option, sym, refl, ap, ◌∙◌, ap₂, inl, inr, arith}
+use Rattle.std.proofs.lemmas.Bool.{both_ways, cases_eq, eqb-true, eq-eqb, ne_eqb, or_cases, or_left, or_right}
 use Rattle.states.specs.Words.{tally}
 use Rattle.states.proofs.Digits.{tally_same}
 use Rattle.books.specs.Meaning.{Meaning, InForce, Lawful, is}
 use Rattle.expressions.specs.Expression.{Expr, empty, symbol, join, either, star, plus, optional, Plain, Labelled, plain, symbols}
-use Rattle.expressions.specs.Positions.{Owns, Distinct, Disjoint, followed_by}
+use Rattle.expressions.specs.Positions.{Owns, Distinct, followed_by}
 use Rattle.expressions.specs.Rules.{Means, needed, live}
 use Rattle.expressions.proofs.Members.{same_test, is_some, some_is}
 

@@ -1,9 +1,9 @@
 -- An expression followed by its end: its positions read exactly the texts that it denotes. Assumes nothing.
 use Rattle.std.proofs.Common.{◌≡◌, ℕ, ◌≤◌, ◌⊎◌, ◌↔◌, List, [], ◌∷◌, ◌++◌, sym, refl, ap, ◌∙◌, subst, inl, inr, append-nil, arith}
-use Rattle.expressions.specs.Expression.{Labelled, Plain, plain, Language, Denotes}
-use Rattle.expressions.specs.Positions.{Positions, Owns, Distinct, Takes, First, Follow, followed_by}
+use Rattle.expressions.specs.Expression.{Labelled, plain, Language, Denotes}
+use Rattle.expressions.specs.Positions.{Positions, Distinct, Takes, First, Follow, followed_by}
 use Rattle.expressions.proofs.Owned.{takes_owned, plain_denotes}
-use Rattle.expressions.proofs.Reading.{only_left, Ahead, Fits, Onward, sound, complete, onward_sound}
+use Rattle.expressions.proofs.Reading.{only_left, Ahead, Fits, sound, complete, onward_sound}
 
 -- no code is from 1 to 0
 no_code : (c : ℕ) → 1 ≤ c → c ≤ 0 → ⊥

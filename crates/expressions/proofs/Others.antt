@@ -1,10 +1,10 @@
 -- A change of one rule leaves the other rules the expressions that they are. Assumes nothing.
-use Rattle.std.proofs.Common.{◌≡◌, ℕ, Bool, true, false, ◌↔◌, Some, sym, refl, ap, ◌∙◌, subst, inl, inr}
+use Rattle.std.proofs.Common.{◌≡◌, ℕ, true, ◌↔◌, Some, sym, refl, ap, ◌∙◌, subst, inl, inr}
 use mathlib.Core.Logic.Iff
 use Rattle.std.proofs.lemmas.Bool.{both_ways, cases_Bool}
 use Rattle.states.specs.declared.state.State.{State}
 use Rattle.states.specs.Sets.{has, has_rule}
-use Rattle.books.specs.Meaning.{Meaning, Lawful, is, touches}
+use Rattle.books.specs.Meaning.{Meaning, Lawful, touches}
 use Rattle.books.specs.Changes.{Elsewhere, Added, Deleted}
 use Rattle.expressions.specs.Expression.{Plain}
 use Rattle.expressions.specs.Rules.{only, Means, Additive}

@@ -1,6 +1,6 @@
 -- First, last, followers and takers are positions of the expression; what is nullable denotes the empty text. Assumes nothing.
-use Rattle.std.proofs.Common.{◌≡◌, ℕ, ◌⊎◌, List, [], refl, ap, ap₂, inl, inr}
-use Rattle.expressions.specs.Expression.{Expr, empty, symbol, join, either, star, plus, optional, Labelled, plain, Language, Nothing, Concatenation, Union, Repetition, none, again, Denotes}
+use Rattle.std.proofs.Common.{◌≡◌, ℕ, [], refl, ap, ap₂, inl, inr}
+use Rattle.expressions.specs.Expression.{Expr, empty, symbol, join, either, star, plus, optional, Labelled, plain, Language, Nothing, Concatenation, Union, Repetition, none, Denotes}
 use Rattle.expressions.specs.Positions.{Owns, Takes, Nullable, First, Last, Follow}
 
 pub first_owned : (e : Labelled) (p : ℕ) → First e p → Owns e p

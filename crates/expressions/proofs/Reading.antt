@@ -1,9 +1,9 @@
 -- An expression in its place: what its positions read is what it denotes, and then what comes behind it. Assumes nothing.
-use Rattle.std.proofs.Common.{◌≡◌, ℕ, zero, suc, ◌≤◌, ◌⊎◌, ◌↔◌, List, [], ◌∷◌, ◌++◌, length, sym, refl, ap, ◌∙◌, subst, inl, inr, append_assoc, append-nil, le_refl, arith, length-append}
+use Rattle.std.proofs.Common.{◌≡◌, ℕ, zero, suc, ◌≤◌, ◌⊎◌, ◌↔◌, List, [], ◌∷◌, ◌++◌, length, sym, refl, ap, ◌∙◌, subst, inl, inr, append_assoc, le_refl, arith, length-append}
 use mathlib.Core.Logic.Iff
-use Rattle.expressions.specs.Expression.{Expr, empty, symbol, join, either, star, plus, optional, Labelled, Language, Concatenation, Repetition, none, again, Denotes}
+use Rattle.expressions.specs.Expression.{empty, symbol, join, either, star, plus, optional, Labelled, Language, Concatenation, Repetition, none, again, Denotes}
 use Rattle.expressions.specs.Positions.{Positions, Owns, Distinct, Takes, Nullable, First, Last, Follow}
-use Rattle.expressions.proofs.Owned.{first_owned, last_owned, takes_owned, follow_owned, nullable_denotes}
+use Rattle.expressions.proofs.Owned.{last_owned, takes_owned, follow_owned, nullable_denotes}
 
 -- a sum of which one side is empty
 pub only_left : {A B : Type 0} → (B → ⊥) → (A ⊎ B) ↔ A

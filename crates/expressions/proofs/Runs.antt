@@ -1,13 +1,13 @@
 -- A run of commands is read exactly as it is spelled, and refused where it stops. Assumes nothing.
-use Rattle.std.proofs.Common.{◌≡◌, ℕ, zero, suc, ◌+◌, ◌-◌, ◌<◌, ◌≤◌, ◌↔◌, List, [], ◌∷◌, ◌++◌, length, take, drop, Ok, Err, Result, sym, refl, ap, ◌∙◌, subst, append_assoc, append-nil, le_refl, arith, length-append, take-append-drop}
+use Rattle.std.proofs.Common.{◌≡◌, ℕ, zero, suc, ◌+◌, ◌-◌, ◌<◌, ◌≤◌, ◌↔◌, List, [], ◌∷◌, ◌++◌, length, take, Ok, Err, Result, sym, refl, ap, ◌∙◌, subst, append_assoc, append-nil, le_refl, arith, length-append, take-append-drop}
 use Rattle.books.specs.declared.faults.Cause.{Cause}
 use Rattle.books.specs.declared.faults.Cause.TheVariants.{NotOne}
 use Rattle.books.specs.declared.faults.CommandFault.{CommandFault}
 use Rattle.expressions.specs.declared.command.Command.{Command}
 use Rattle.expressions.specs.declared.command.Command.TheVariants.{Empty, Symbol, Join, Either, Star, Plus, Optional}
-use Rattle.expressions.specs.Expression.{Expr, empty, symbol, join, either, star, plus, optional, Plain, symbols, Concatenation}
-use Rattle.expressions.specs.Commands.{width, takes, most, decoded, applied, alone, turn, read, read_all, counted, Byte, Spells, room, Leaves, Stops, Accepted, Refused, Judged}
-use Rattle.expressions.proofs.Steps.{Passes, passes}
+use Rattle.expressions.specs.Expression.{empty, symbol, join, either, star, plus, optional, Plain, symbols}
+use Rattle.expressions.specs.Commands.{width, takes, most, decoded, applied, alone, turn, read, read_all, counted, Spells, room, Leaves, Stops, Accepted, Refused, Judged}
+use Rattle.expressions.proofs.Steps.{passes}
 use Rattle.expressions.proofs.Words.{Word, word_of, word_decoded, leaves_applied}
 
 -- ---- a command that is obeyed

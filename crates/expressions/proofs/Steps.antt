@@ -1,12 +1,12 @@
 -- One command: what is behind its letter, and the answers to its questions. Assumes nothing.
-use Rattle.std.proofs.Common.{◌≡◌, ℕ, ◌+◌, ◌-◌, ◌<◌, ◌≤◌, Bool, true, false, not, ◌||◌, eqb, ltb, leb, List, [], ◌∷◌, length, get_or, take, drop, Some, None, Ok, Err, Option, Result, sym, refl, ap, ◌∙◌, subst, inl, inr, arith}
+use Rattle.std.proofs.Common.{◌≡◌, ℕ, ◌-◌, ◌<◌, ◌≤◌, Bool, true, false, not, ◌||◌, eqb, ltb, List, length, take, drop, Some, None, Ok, Option, Result, sym, refl, ap, ◌∙◌, subst, inl, inr, arith}
 use Rattle.std.proofs.lemmas.List.{take_rest}
 use Rattle.std.proofs.lemmas.Bool.{cases_eq, both_ways, not-true, not_from_false, le-leb, leb-true, lt-ltb, ltb-true, eq-eqb, ne_eqb, or_left, or_right, or_cases}
 use Rattle.books.specs.declared.faults.Cause.{Cause}
-use Rattle.books.specs.declared.faults.Cause.TheVariants.{Letter, Operands, Codes, TooFew, TooMany, NotOne}
+use Rattle.books.specs.declared.faults.Cause.TheVariants.{Operands, Codes, TooFew, TooMany}
 use Rattle.expressions.specs.declared.command.Command.{Command}
-use Rattle.expressions.specs.declared.command.Command.TheVariants.{Empty, Symbol, Join, Either, Star, Plus, Optional}
-use Rattle.expressions.specs.Commands.{code, code_at, command, width, takes, in_range, most, ask, questions, decoded}
+use Rattle.expressions.specs.declared.command.Command.TheVariants.{Symbol}
+use Rattle.expressions.specs.Commands.{code_at, command, width, takes, in_range, most, ask, questions, decoded}
 
 -- ---- what is behind a letter
 

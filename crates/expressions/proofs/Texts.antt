@@ -1,13 +1,13 @@
 -- A whole text meets a rule exactly when the rule's expression denotes it. Assumes nothing.
-use Rattle.std.proofs.Common.{◌≡◌, ℕ, true, ◌⊎◌, ◌↔◌, List, [], ◌∷◌, Some, sym, refl, ap, ◌∙◌, subst, inl, inr}
+use Rattle.std.proofs.Common.{◌≡◌, ℕ, true, ◌↔◌, List, [], ◌∷◌, Some, sym, refl, ◌∙◌, subst, inr}
 use mathlib.Core.Logic.Iff
 use Rattle.states.specs.declared.state.State.{State}
 use Rattle.states.specs.Sets.{has, has_rule}
 use Rattle.books.specs.Meaning.{Meaning, Lawful}
 use Rattle.books.specs.Texts.{after, meets}
-use Rattle.expressions.specs.Expression.{Plain, Labelled, plain, Denotes}
-use Rattle.expressions.specs.Positions.{Positions, Owns, Takes, First, Follow, followed_by}
-use Rattle.expressions.specs.Rules.{only, Means, Additive}
+use Rattle.expressions.specs.Expression.{Plain, Denotes}
+use Rattle.expressions.specs.Positions.{Positions, First, followed_by}
+use Rattle.expressions.specs.Rules.{Means, Additive}
 use Rattle.expressions.proofs.Owned.{first_owned, follow_owned}
 use Rattle.expressions.proofs.Followed.{Ahead_of, firsts_read}
 use Rattle.expressions.proofs.Members.{leads_from_own}

@@ -1,5 +1,5 @@
 -- The token law: the longest beginning that ends a rule is the longest that some rule's expression denotes. Assumes nothing.
-use Rattle.std.proofs.Common.{◌≡◌, ℕ, ◌<◌, ◌≤◌, Bool, true, false, ◌↔◌, List, length, take, is_some, sym, refl, ap, ◌∙◌, subst, inl, inr}
+use Rattle.std.proofs.Common.{◌≡◌, ℕ, true, false, ◌↔◌, List, take, is_some, refl, subst, inl, inr}
 use Rattle.std.proofs.lemmas.Bool.{both_ways, cases_Bool, cases_lt}
 use Rattle.std.proofs.lemmas.Bool.Decides.{Decides-below_or}
 use Rattle.states.specs.declared.rules.Rules.{Rules}
@@ -8,11 +8,10 @@ use Rattle.states.specs.Sets.{has_rule, no_rule}
 use Rattle.states.proofs.Members.{same_rules, no_rule_decides, rules_above}
 use Rattle.books.specs.Meaning.{Meaning, Lawful}
 use Rattle.books.specs.Texts.{meets}
-use Rattle.readings.specs.Readings.{Told, Longest, NoneEnds, Searches}
-use Rattle.readings.specs.Readings.Told.{matched, refused}
+use Rattle.readings.specs.Readings.{Told, Longest, Searches}
+use Rattle.readings.specs.Readings.Told.{matched}
 use Rattle.readings.specs.Readings.Searches.{finds, fails}
-use Rattle.expressions.specs.Expression.{Plain}
-use Rattle.expressions.specs.Rules.{Means, Additive, Expressed}
+use Rattle.expressions.specs.Rules.{Additive, Expressed}
 use Rattle.expressions.specs.Tokens.{RuleDenotes, DenotedBy, SomeDenotes, LongestDenoted, Finds}
 use Rattle.expressions.specs.Tokens as Tokens
 use Rattle.expressions.proofs.Members.{same_test}

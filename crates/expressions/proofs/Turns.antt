@@ -1,14 +1,13 @@
 -- One turn of a loop that takes command after command off a run. Assumes nothing.
-use Rattle.std.proofs.Common.{◌≡◌, ℕ, suc, ◌+◌, ◌-◌, ◌<◌, ◌≤◌, List, [], ◌∷◌, length, get_or, take, drop, Ok, Err, Result, sym, refl, ap, ◌∙◌, subst, arith}
+use Rattle.std.proofs.Common.{◌≡◌, ℕ, suc, ◌+◌, ◌-◌, ◌<◌, ◌≤◌, List, [], ◌∷◌, length, get_or, take, drop, Ok, Err, Result, sym, refl, ap, ◌∙◌, arith}
 use Rattle.std.proofs.lemmas.List.{take_rest}
 use Rattle.books.specs.declared.faults.Cause.{Cause}
 use Rattle.books.specs.declared.faults.Cause.TheVariants.{NotOne}
-use Rattle.books.specs.declared.faults.CommandFault.{CommandFault}
 use Rattle.expressions.specs.declared.command.Command.{Command}
 use Rattle.expressions.specs.declared.command.Command.TheVariants.{Empty, Symbol, Join, Either, Star, Plus, Optional}
-use Rattle.expressions.specs.Expression.{Plain, symbols}
-use Rattle.expressions.specs.Commands.{takes, adds, most, decoded, applied, alone, turn, read, counted}
-use Rattle.expressions.proofs.Steps.{Passes, passes}
+use Rattle.expressions.specs.Expression.{Plain}
+use Rattle.expressions.specs.Commands.{takes, adds, most, decoded, applied, turn, read, counted}
+use Rattle.expressions.proofs.Steps.{passes}
 use Rattle.expressions.proofs.Words.{length_applied, total, total_applied}
 use Rattle.expressions.proofs.Runs.{decoded_less, read_on}
 

@@ -1,11 +1,11 @@
 -- The bytes of one command, and what it makes of the expressions that wait. Assumes nothing.
-use Rattle.std.proofs.Common.{◌≡◌, ℕ, ◌+◌, ◌-◌, ◌<◌, ◌≤◌, max, true, cond, ◌&&◌, eqb, leb, ◌⊎◌, List, [], ◌∷◌, ◌++◌, length, take, drop, Some, None, Ok, Err, Option, sym, refl, ap, ◌∙◌, subst, inl, inr, append_assoc, arith}
+use Rattle.std.proofs.Common.{◌≡◌, ℕ, ◌+◌, ◌-◌, ◌<◌, ◌≤◌, max, true, cond, eqb, leb, List, [], ◌∷◌, ◌++◌, length, take, drop, Some, None, Ok, Option, sym, refl, ap, ◌∙◌, subst, inl, inr, append_assoc, arith}
 use Rattle.std.proofs.lemmas.Bool.{cond_both, eqb-true, leb-true, le-leb, and_parts, and_from}
 use Rattle.expressions.specs.declared.command.Command.{Command}
 use Rattle.expressions.specs.declared.command.Command.TheVariants.{Empty, Symbol, Join, Either, Star, Plus, Optional}
-use Rattle.expressions.specs.Expression.{Expr, empty, symbol, join, either, star, plus, optional, Plain, symbols, Language, Concatenation}
-use Rattle.expressions.specs.Commands.{code, code_at, command, width, takes, adds, in_range, most, decoded, applied, Byte, Code, SpellsRange, Spells, room, Leaves}
-use Rattle.expressions.proofs.Steps.{Passes, decodes}
+use Rattle.expressions.specs.Expression.{empty, symbol, join, either, star, plus, optional, Plain, symbols, Language, Concatenation}
+use Rattle.expressions.specs.Commands.{code, code_at, command, width, takes, adds, in_range, most, decoded, applied, Byte, SpellsRange, Spells, room, Leaves}
+use Rattle.expressions.proofs.Steps.{decodes}
 
 -- the runs of the command c alone
 abbrev pub Word : ℕ → Command → Language

@@ -6,7 +6,7 @@ use Rattle.books.specs.declared.faults.Cause.TheVariants.{Letter, Operands, Code
 use Rattle.books.specs.declared.faults.CommandFault.{CommandFault}
 use Rattle.expressions.specs.declared.command.Command.{Command}
 use Rattle.expressions.specs.declared.command.Command.TheVariants.{Empty, Symbol, Join, Either, Star, Plus, Optional}
-use Rattle.expressions.specs.Expression.{Expr, empty, symbol, join, either, star, plus, optional, Plain, symbols, Language, Concatenation}
+use Rattle.expressions.specs.Expression.{empty, symbol, join, either, star, plus, optional, Plain, symbols, Language, Concatenation}
 
 -- ---- one command
 

@@ -1,6 +1,6 @@
 -- The positions of a labelled expression: which can come first, which last, and which can follow which.
 use Rattle.std.specs.Prelude.{◌≡◌, ℕ, ◌≤◌, ◌⊎◌, ◌↔◌}
-use Rattle.expressions.specs.Expression.{Expr, empty, symbol, join, either, star, plus, optional, Labelled}
+use Rattle.expressions.specs.Expression.{empty, symbol, join, either, star, plus, optional, Labelled}
 
 -- a set of positions
 abbrev pub Positions : Type 1

@@ -1,5 +1,5 @@
 -- Rules of a book that are expressions, and why adding one is refused.
-use Rattle.std.specs.Prelude.{◌≡◌, ℕ, ◌+◌, ◌≤◌, Bool, true, false, cond, not, ◌↔◌, List, [], length, is_some, Some, None, Ok, Err, Option, Result, nat_eq, nat_le}
+use Rattle.std.specs.Prelude.{◌≡◌, ℕ, ◌+◌, true, cond, ◌↔◌, List, length, is_some, Some, None, Ok, Err, Option, Result, nat_eq, nat_le}
 use Rattle.states.specs.declared.state.State.{State}
 use Rattle.states.specs.Words.{tally}
 use Rattle.states.specs.Sets.{has, has_rule, set_of}
@@ -7,7 +7,7 @@ use Rattle.books.specs.Meaning.{Meaning, InForce}
 use Rattle.books.specs.declared.faults.CommandFault.{CommandFault}
 use Rattle.books.specs.declared.faults.BookFault.{BookFault}
 use Rattle.books.specs.declared.faults.BookFault.TheVariants.{Number, Kind, Taken, Length, Command, Full}
-use Rattle.expressions.specs.Expression.{Plain, Labelled, plain, symbols}
+use Rattle.expressions.specs.Expression.{Plain, Labelled, plain}
 use Rattle.expressions.specs.Positions.{Owns, Distinct, Takes, First, Follow, followed_by}
 use Rattle.expressions.specs.Commands.{read_all, counted}
 

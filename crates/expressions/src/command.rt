@@ -1,6 +1,6 @@
 // One command of a written expression, with its operands.
 ghost use Rattle.std.specs.Prelude.{◌≡◌};
-ghost use Rattle.expressions.specs.Commands.{takes as takesOf, adds};
+ghost use Rattle.expressions.specs.Commands.{takes as takes_of, adds};
 
 // What a command does: it puts an expression among those that wait, or makes one of the last one or two.
 #[derive(Clone, Copy, PartialEq, Eq, Debug)]
@@ -24,7 +24,7 @@ pub enum Command {
 impl Command {
     // How many expressions it takes; it leaves one in their place.
     pub fn takes(self) -> usize
-        ensures { result ≡ takesOf self }
+        ensures { result ≡ takes_of self }
     {
         match self {
             Command::Empty | Command::Symbol(_, _) => 0,
