@@ -1,9 +1,9 @@
 -- How the reading of a text goes on, mark by mark.
-use Rattle.std.proofs.Common.{◌≡◌, ℕ, zero, suc, ◌+◌, ◌-◌, ◌<◌, ◌≤◌, List, [], ◌∷◌, ◌++◌, length, drop, Ok, Err, Result, sym, refl, ap, ◌∙◌, subst, arith, length-drop, Bor}
+use Rattle.std.proofs.Common.{◌≡◌, ℕ, zero, suc, ◌-◌, ◌<◌, ◌≤◌, List, [], ◌∷◌, length, drop, Ok, Err, sym, refl, ap, ◌∙◌, arith, length-drop, Bor}
 use Rattle.patterns.specs.declared.faults.PatternFault.{PatternFault}
 use Rattle.patterns.specs.declared.marks.Mark.{Mark}
 use Rattle.patterns.specs.Marks.{Part, plain, escape, class, sign, width, cut, part_of, Marked}
-use Rattle.patterns.specs.Reading.{E, Level, Open, step, turn, onward, read, finished}
+use Rattle.patterns.specs.Reading.{Level, Open, step, turn, onward, read, finished}
 
 -- the rest of a mark is passed
 read_skip : (size : ℕ) (l : Level) (os : List Open) (k : ℕ) (t : List ℕ) → read size l os k t ≡ read size l os 0 (drop k t)

@@ -1,5 +1,5 @@
 -- The runs of a set, found from the lowest byte on.
-use Rattle.std.proofs.Common.{◌≡◌, ℕ, zero, suc, ◌+◌, ◌<◌, ◌≤◌, Bool, true, false, cond, not, eqb, List, [], ◌∷◌, ◌++◌, map, Some, None, Ok, Err, Option, sym, refl, ap, ◌∙◌, subst, append_assoc, add-one, arith}
+use Rattle.std.proofs.Common.{◌≡◌, ℕ, zero, suc, ◌+◌, Bool, true, false, cond, not, eqb, List, [], ◌∷◌, ◌++◌, map, Some, None, Ok, Err, Option, sym, refl, ap, ◌∙◌, subst, add-one, arith}
 use Rattle.expressions.specs.Expression.{either}
 use Rattle.patterns.specs.declared.classes.Run.{Run}
 use Rattle.patterns.specs.declared.sink.Filled.{Filled}
@@ -9,8 +9,8 @@ use Rattle.states.specs.Sets.{has}
 use Rattle.patterns.specs.declared.faults.PatternFault.{PatternFault}
 use Rattle.patterns.specs.declared.faults.PatternFault.TheVariants.{EmptyClass}
 use Rattle.patterns.specs.Classes.{runs, grown, Grows, Inner, inner, in_class, members, spans, falling, covers, ClassRead}
-use Rattle.patterns.specs.Reading.{written, together, ranged, chosen, risen, body_end, class_of, runs_written, nonempty, behind_first, ClassPut}
-use Rattle.patterns.proofs.Puts.{adds_both, adds_none}
+use Rattle.patterns.specs.Reading.{together, ranged, chosen, risen, body_end, class_of, runs_written, nonempty, behind_first, ClassPut}
+use Rattle.patterns.proofs.Puts.{adds_both}
 
 -- All runs of numbers below n but the last one are put into the buffer.
 pub record Last (f : ℕ → Bool) (n : ℕ) (o₀ : List ℕ) (f₀ : Filled) (r : Run) (more : Bool) (o : List ℕ) (filled : Filled) : Type 0 where

@@ -1,11 +1,11 @@
 -- A text is cut byte by byte.
-use Rattle.std.proofs.Common.{◌≡◌, ℕ, suc, ◌+◌, ◌-◌, ◌<◌, ◌≤◌, Bool, true, false, cond, List, [], ◌∷◌, ◌++◌, length, get_or, take, drop, Ok, Err, Result, sym, refl, ap, ◌∙◌, subst, add_assoc, zero-add, arith, length-take-le, Bor, ne_eqb}
+use Rattle.std.proofs.Common.{◌≡◌, ℕ, suc, ◌+◌, ◌-◌, ◌<◌, ◌≤◌, true, false, List, [], ◌∷◌, length, get_or, take, drop, Ok, Err, sym, refl, ap, ◌∙◌, subst, add_assoc, zero-add, arith, length-take-le, Bor, ne_eqb}
 use Rattle.std.proofs.lemmas.List.{take_rest}
 use Rattle.patterns.specs.declared.faults.PatternFault.{PatternFault}
 use Rattle.patterns.specs.declared.marks.ClassEnd.{ClassEnd}
 use Rattle.patterns.specs.declared.marks.ClassEnd.TheVariants.{At, Never, LoneEscape}
 use Rattle.patterns.specs.declared.marks.Mark.{Mark}
-use Rattle.patterns.specs.Marks.{Part, plain, class, sign, cut, closes, classed, later, part_of, width, Marked, is_sign}
+use Rattle.patterns.specs.Marks.{plain, class, sign, cut, closes, classed, later, part_of, width, Marked, is_sign}
 
 -- a text of some byte is that byte and the rest
 pub front : (t : List ℕ) → 1 ≤ length t → t ≡ get_or t 0 0 ∷ take (length t - 1) (drop 1 t)

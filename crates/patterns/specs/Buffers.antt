@@ -1,5 +1,5 @@
 -- A buffer that a run of bytes is put into, as far as there is room.
-use Rattle.std.specs.Prelude.{◌≡◌, ℕ, ◌≤◌, min, List, [], ◌∷◌, ◌++◌, length, take, drop, nat_lt}
+use Rattle.std.specs.Prelude.{◌≡◌, ℕ, ◌≤◌, min, List, ◌++◌, length, take, drop, nat_lt}
 use Rattle.patterns.specs.declared.sink.Filled.{Filled}
 
 -- the buffer with the bytes w at its front, as many as it takes

@@ -1,5 +1,5 @@
 -- Marks: a pattern text is cut into plain bytes, escapes, classes and signs.
-use Rattle.std.specs.Prelude.{◌≡◌, ℕ, ◌+◌, ◌<◌, ◌≤◌, Bool, true, false, cond, ◌||◌, List, [], ◌∷◌, ◌++◌, length, take, drop, Some, None, Ok, Err, Option, Result, ◌==◌}
+use Rattle.std.specs.Prelude.{◌≡◌, ℕ, ◌+◌, ◌<◌, ◌≤◌, Bool, cond, ◌||◌, List, [], ◌∷◌, length, take, drop, Some, None, Ok, Err, Option, Result, ◌==◌}
 use Rattle.std.specs.Borrow.{Bor}
 use Rattle.patterns.specs.declared.faults.PatternFault.{PatternFault}
 use Rattle.patterns.specs.declared.faults.PatternFault.TheVariants.{OpenClass}

@@ -1,6 +1,6 @@
 -- What the functions that read a choice, a sequence, a piece and an atom promise each other: how far they read, what they
 -- put into the buffer, and that the reading of the text goes on from there.
-use Rattle.std.specs.Prelude.{◌≡◌, ℕ, ◌<◌, ◌≤◌, Bool, true, false, cond, ◌||◌, List, [], ◌∷◌, ◌++◌, length, Some, None, Ok, Err, Option, Result, ◌==◌}
+use Rattle.std.specs.Prelude.{◌≡◌, ℕ, ◌<◌, ◌≤◌, Bool, true, false, ◌||◌, List, [], ◌∷◌, length, Some, None, Ok, Err, Option, Result, ◌==◌}
 use Rattle.std.specs.Borrow.{Bor}
 use Rattle.expressions.specs.Expression.{join}
 use Rattle.patterns.specs.declared.faults.PatternFault.{PatternFault}

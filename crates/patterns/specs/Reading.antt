@@ -1,11 +1,11 @@
 -- How a pattern text is read: mark by mark, from left to right, with the expressions that it has given so far.
-use Rattle.std.specs.Prelude.{◌≡◌, ℕ, zero, suc, ◌+◌, ◌-◌, ◌<◌, ◌≤◌, Bool, true, false, cond, not, ◌&&◌, ◌||◌, List, [], ◌∷◌, ◌++◌, map, length, Some, None, Ok, Err, Option, Result, ◌==◌, nat_lt}
+use Rattle.std.specs.Prelude.{◌≡◌, ℕ, zero, suc, ◌+◌, ◌-◌, Bool, true, false, cond, ◌||◌, List, [], ◌∷◌, ◌++◌, map, length, Some, None, Ok, Err, Option, Result, ◌==◌, nat_lt}
 use Rattle.expressions.specs.Expression.{Expr, empty, symbol, join, either, star, plus, optional}
 use Rattle.patterns.specs.declared.faults.PatternFault.{PatternFault}
 use Rattle.patterns.specs.declared.faults.PatternFault.TheVariants.{FallingRange, EmptyClass, NoAtom, Unbalanced, TooDeep, Reserved}
 use Rattle.patterns.specs.declared.marks.Repeat.{Repeat}
 use Rattle.patterns.specs.declared.marks.Repeat.TheVariants.{Star, Plus, Optional}
-use Rattle.patterns.specs.Marks.{Part, plain, escape, class, sign, width, cut, repeat_of, is_sign}
+use Rattle.patterns.specs.Marks.{Part, plain, escape, class, sign, width, cut, repeat_of}
 use Rattle.patterns.specs.declared.classes.Run.{Run}
 use Rattle.patterns.specs.declared.sink.Filled.{Filled}
 use Rattle.patterns.specs.Buffers.{Adds}

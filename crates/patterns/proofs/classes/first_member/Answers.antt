@@ -1,4 +1,4 @@
-use Rattle.std.proofs.Common.{◌≡◌, get_or, sym, refl, ap, ◌∙◌, rules}
+use Rattle.std.proofs.Common.{rules}
 use Rattle.patterns.proofs.Scans.{front, none, rest, second, lead}
 use Rattle.patterns.proofs.Spanned.{first_escaped, first_bare}
 use Rattle.patterns.proofs.classes.first_member.Goals as goal

@@ -1,6 +1,6 @@
-use Rattle.std.proofs.Common.{◌≡◌, true, false, ◌∷◌, get_or, Ok, sym, refl, ap, ◌∙◌, arith, rules}
+use Rattle.std.proofs.Common.{◌≡◌, true, get_or, Ok, sym, refl, ap, ◌∙◌, arith, rules}
 use Rattle.patterns.specs.Marks.{is_sign, sign, classed}
-use Rattle.patterns.proofs.Scans.{front, none, rest, second, lead, class_cut, marked, unmarked, plain_cut, sign_cut}
+use Rattle.patterns.proofs.Scans.{front, rest, second, lead, class_cut, marked, unmarked, plain_cut, sign_cut}
 use Rattle.patterns.proofs.marks.first_mark.Goals as goal
 
 pub returns-in-len1-up-rest : goal.returns-in-len1-up-rest

@@ -1,4 +1,4 @@
-use Rattle.std.proofs.Common.{[], ◌∷◌, sym, subst}
+use Rattle.std.proofs.Common.{◌∷◌, sym, subst}
 use Rattle.patterns.specs.Buffers.{Adds}
 use Rattle.patterns.specs.Reading.{behind_first}
 use Rattle.patterns.proofs.Puts.{adds_first}

@@ -1,4 +1,4 @@
-use Rattle.std.proofs.Common.{◌≡◌, ◌+◌, [], ◌∷◌, sym, subst, rules}
+use Rattle.std.proofs.Common.{◌+◌, [], ◌∷◌, sym, subst}
 use Rattle.patterns.specs.Buffers.{Adds}
 use Rattle.patterns.proofs.Puts.{adds_in, adds_out}
 use Rattle.patterns.proofs.sink.push.Goals as goal
