@@ -1,15 +1,14 @@
 -- An adding, as the book's contracts say it. Assumes nothing.
-use Rattle.std.proofs.Common.{◌≡◌, ℕ, ◌+◌, ◌<◌, Bool, true, false, cond, not, ◌&&◌, ◌⊎◌, ◌↔◌, List, [], ◌∷◌, get_or, is_some as option_is_some, Some, None, Decides, Option, sym, refl, ap, ◌∙◌, subst, ap₂, inl, inr, arith}
+use Rattle.std.proofs.Common.{◌≡◌, ℕ, ◌<◌, Bool, true, false, cond, not, ◌⊎◌, ◌↔◌, List, [], ◌∷◌, get_or, is_some as option_is_some, Some, None, Decides, Option, sym, refl, ap, ◌∙◌, inl, inr}
 use Rattle.std.proofs.lemmas.List.{get_or-set_other}
 use Rattle.std.proofs.lemmas.Bool.{cases_Bool, both_ways, and_parts, and_from, and_cases, not-true, not-false}
 use Rattle.states.specs.declared.state.State.{State}
-use Rattle.states.specs.Words.{tally}
 use Rattle.states.specs.Sets.{has, has_rule, size}
 use Rattle.states.proofs.Digits.{tally_same}
 use Rattle.states.proofs.Members.{member_below}
 use Rattle.books.specs.Changes.{Added}
 use Rattle.expressions.specs.Expression.{Plain, Labelled}
-use Rattle.expressions.specs.Positions.{Owns, Takes, First, Follow, followed_by}
+use Rattle.expressions.specs.Positions.{Owns, Takes, Follow, followed_by}
 use Rattle.expressions.specs.Rules.{only, Means, Additive, live}
 use Rattle.expressions.proofs.Owned.{first_owned}
 use Rattle.expressions.proofs.Members.{only_holds, only_is, is_some, some_is}
@@ -18,9 +17,9 @@ use Rattle.expression_book.specs.declared.table.Table.{Table}
 use Rattle.expression_book.specs.Rows.{row, takes, leads}
 use Rattle.expression_book.specs.Tables.{table_meaning, owns}
 use Rattle.expression_book.specs.Building.{Any, taken, Puts}
-use Rattle.expression_book.specs.Laws.{in_force, rule_at, follows_at, mine, owner_from, live_is, next_by, ended_by, fails}
+use Rattle.expression_book.specs.Laws.{in_force, rule_at, follows_at, mine, live_is, next_by, ended_by, fails}
 use Rattle.expression_book.proofs.Removed.{kind_here}
-use Rattle.expression_book.proofs.Alike.{Same, Alike, elsewhere, either_way}
+use Rattle.expression_book.proofs.Alike.{Alike, elsewhere, either_way}
 
 -- ---- every table
 

@@ -1,5 +1,5 @@
 -- Two tables that differ in one rule alone. Assumes nothing.
-use Rattle.std.proofs.Common.{◌≡◌, ℕ, Bool, true, false, cond, ◌&&◌, ◌⊎◌, ◌↔◌, List, [], ◌∷◌, get_or, Some, None, Option, sym, refl, ap, ◌∙◌, ap₂, inl, inr}
+use Rattle.std.proofs.Common.{◌≡◌, ℕ, Bool, true, false, cond, ◌&&◌, List, [], ◌∷◌, get_or, Some, None, sym, ap, ◌∙◌, ap₂, inl, inr}
 use Rattle.std.proofs.lemmas.Bool.{cases_Bool, both_ways, and_parts}
 use Rattle.std.proofs.lemmas.Bool.Decides.{same_from_decides}
 use Rattle.states.specs.declared.state.State.{State}
@@ -10,7 +10,7 @@ use Rattle.books.specs.Changes.{Elsewhere}
 use Rattle.books.specs.Texts.{after, meets}
 use Rattle.expression_book.specs.declared.row.Row.{Row}
 use Rattle.expression_book.specs.declared.table.Table.{Table}
-use Rattle.expression_book.specs.Rows.{row, takes, leads}
+use Rattle.expression_book.specs.Rows.{row, takes}
 use Rattle.expression_book.specs.Tables.{table_meaning, owns}
 use Rattle.expression_book.specs.Laws.{rule_at, follows_at, touched, mine, owner_from, next_by, ended_by}
 

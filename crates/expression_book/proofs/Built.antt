@@ -1,18 +1,18 @@
 -- Each command keeps what is true between two commands. Assumes nothing.
-use Rattle.std.proofs.Common.{◌≡◌, ℕ, Bool, true, false, not, ◌&&◌, ◌||◌, eqb, ◌⊎◌, List, [], ◌∷◌, map, Decides, sym, refl, ap, ◌∙◌, subst, ap₂, inl, inr}
-use Rattle.std.proofs.lemmas.Bool.{cases_eq, cases_Bool, both_ways, and_parts, and_from, and_left, and_right, eq-eqb, ne_eqb, or_cases, or_left, or_right}
+use Rattle.std.proofs.Common.{◌≡◌, ℕ, Bool, true, false, not, ◌&&◌, ◌||◌, eqb, ◌⊎◌, List, [], ◌∷◌, map, sym, refl, ap, ◌∙◌, ap₂, inl, inr}
+use Rattle.std.proofs.lemmas.Bool.{cases_eq, cases_Bool, both_ways, and_from, and_left, and_right, eq-eqb, ne_eqb, or_left, or_right}
 use Rattle.states.specs.declared.state.State.{State}
-use Rattle.states.specs.Sets.{has, nothing}
+use Rattle.states.specs.Sets.{has}
 use Rattle.states.proofs.Members.{has_nothing}
-use Rattle.expressions.specs.Expression.{Expr, empty, symbol, join, either, star, plus, optional, Labelled, Plain, plain}
-use Rattle.expressions.specs.Positions.{Owns, Last, First}
-use Rattle.expressions.proofs.Owned.{first_owned, last_owned}
+use Rattle.expressions.specs.Expression.{empty, symbol, join, either, star, plus, optional, Labelled, Plain, plain}
+use Rattle.expressions.specs.Positions.{Owns}
+use Rattle.expressions.proofs.Owned.{last_owned}
 use Rattle.expression_book.specs.declared.part.Part.{Part}
 use Rattle.expression_book.specs.declared.row.Row.{Row}
 use Rattle.expression_book.specs.declared.table.Table.{Table}
-use Rattle.expression_book.specs.Rows.{row, takes, fresh_row, Gains}
+use Rattle.expression_book.specs.Rows.{row, takes}
 use Rattle.expression_book.specs.Parts.{Shows}
-use Rattle.expression_book.specs.Building.{Holds, Gives, Links, AllShow, Any, Separate, Tabled, taken, Beside, Building}
+use Rattle.expression_book.specs.Building.{Holds, Gives, Links, AllShow, Separate, Tabled, taken, Beside, Building}
 use Rattle.expression_book.specs.Laws.{or_false, rule_at, follows_at}
 use Rattle.expression_book.proofs.Grown.{link_rule, link_low, link_high, link_follow}
 use Rattle.expression_book.proofs.Pieces.{tabled_at, linked, ranged, tabled_empty, tabled_symbol, tabled_join, tabled_either, tabled_star, tabled_plus, tabled_optional, separate_symbol, separate_two}

@@ -1,7 +1,7 @@
 -- A deletion, as the book's contracts say it. Assumes nothing.
-use Rattle.std.proofs.Common.{◌≡◌, ℕ, ◌<◌, Bool, true, false, cond, not, ◌&&◌, List, get_or, is_some, Some, None, Option, sym, refl, ap, ◌∙◌, ap₂, inl, inr}
+use Rattle.std.proofs.Common.{◌≡◌, ℕ, Bool, true, false, cond, not, ◌&&◌, List, get_or, is_some, Some, None, Option, sym, ap, ◌∙◌}
 use Rattle.std.proofs.lemmas.List.{get_or-set_other}
-use Rattle.std.proofs.lemmas.Bool.{cases_Bool, both_ways, and_parts, and_right, not-true}
+use Rattle.std.proofs.lemmas.Bool.{both_ways, and_right}
 use Rattle.states.specs.Sets.{has, has_rule}
 use Rattle.books.specs.Changes.{Deleted}
 use Rattle.books.specs.Texts.{after, meets}
@@ -9,7 +9,7 @@ use Rattle.expression_book.specs.declared.table.Table.{Table}
 use Rattle.expression_book.specs.Tables.{table_meaning, owns, Removes}
 use Rattle.expression_book.specs.Laws.{and_true, fails, in_force, rule_at, mine, owner_from, ended_by, rule_below}
 use Rattle.expression_book.proofs.Removed.{kind_here}
-use Rattle.expression_book.proofs.Alike.{Same, Alike, elsewhere}
+use Rattle.expression_book.proofs.Alike.{Alike, elsewhere}
 
 owner_none : (t : Table) (p : ℕ) → has t.live p ≡ false → (table_meaning t).owner p ≡ None
 owner_none t p e = ap (λ (l : Bool). cond l (Some (rule_at t p)) None) e

@@ -3,7 +3,6 @@ use Rattle.std.proofs.Common.{◌≡◌, ℕ, List, is_some, IfOk, Ok, Err, Resu
 use Rattle.std.proofs.lemmas.Bool.{cases_eq, both_ways}
 use Rattle.books.specs.Changes.{Added, Deleted, Changed}
 use Rattle.books.specs.declared.faults.BookFault.{BookFault}
-use Rattle.expressions.specs.Expression.{Plain}
 use Rattle.expressions.specs.Rules.{Means, Expressed}
 use Rattle.expression_book.specs.declared.table.Table.{Table}
 use Rattle.expression_book.specs.Tables.{table_meaning, table_model}

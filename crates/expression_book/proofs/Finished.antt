@@ -1,10 +1,10 @@
 -- The end put behind the expression that waits alone. Assumes nothing.
-use Rattle.std.proofs.Common.{◌≡◌, ℕ, Bool, true, false, ◌&&◌, ◌||◌, ◌⊎◌, List, [], ◌∷◌, map, Decides, sym, refl, ap, ◌∙◌, subst, inl, inr}
+use Rattle.std.proofs.Common.{◌≡◌, ℕ, true, ◌||◌, ◌⊎◌, List, [], ◌∷◌, map, Decides, sym, ap, ◌∙◌, inl, inr}
 use Rattle.std.proofs.lemmas.Bool.{both_ways, and_parts}
 use Rattle.std.proofs.lemmas.Bool.Decides.{Decides-at, Decides-or}
 use Rattle.states.specs.declared.state.State.{State}
 use Rattle.states.specs.Sets.{has}
-use Rattle.expressions.specs.Expression.{Expr, symbol, join, Labelled, Plain, plain}
+use Rattle.expressions.specs.Expression.{symbol, join, Labelled, Plain, plain}
 use Rattle.expressions.specs.Positions.{Owns, Distinct, First, followed_by}
 use Rattle.expressions.proofs.Owned.{first_owned, last_owned}
 use Rattle.expression_book.specs.declared.part.Part.{Part}

@@ -1,7 +1,7 @@
 -- A table that grows: a position given, positions linked. Its invariants, and the counts. Assumes nothing.
-use Rattle.std.proofs.Common.{◌≡◌, ℕ, ◌+◌, ◌<◌, Bool, true, false, not, ◌&&◌, ◌||◌, eqb, ltb, ◌⊎◌, List, length, get_or, set, is_some, Some, None, sym, refl, ap, ◌∙◌, subst, ap₂, inl, inr, arith}
+use Rattle.std.proofs.Common.{◌≡◌, ℕ, ◌+◌, ◌<◌, Bool, true, false, not, ◌&&◌, ◌||◌, eqb, ltb, ◌⊎◌, List, get_or, set, is_some, Some, None, sym, refl, ap, ◌∙◌, ap₂, inl, inr, arith}
 use Rattle.std.proofs.lemmas.List.{get_or-set_same, get_or-set_other}
-use Rattle.std.proofs.lemmas.Bool.{cases_eq, cases_Bool, both_ways, and_parts, and_from, and_cases, or_cases, or_left, or_right, eqb-true, eq-eqb, ne_eqb, lt-ltb, not-false}
+use Rattle.std.proofs.lemmas.Bool.{cases_eq, cases_Bool, both_ways, and_parts, and_cases, or_cases, or_left, or_right, eqb-true, eq-eqb, ne_eqb, lt-ltb, not-false}
 use Rattle.states.specs.declared.state.State.{State}
 use Rattle.states.specs.Sets.{has, size}
 use Rattle.states.specs.Words.{Least}

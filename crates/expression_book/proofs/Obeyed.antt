@@ -1,9 +1,9 @@
 -- A command obeyed on the stack, as the code has it: ps are the parts before, qs those after. Assumes nothing.
-use Rattle.std.proofs.Common.{◌≡◌, ℕ, suc, ◌+◌, ◌<◌, ◌≤◌, List, [], ◌∷◌, map, length, sym, refl, ap, ◌∙◌, subst, arith}
+use Rattle.std.proofs.Common.{◌≡◌, ℕ, suc, ◌+◌, ◌≤◌, List, [], ◌∷◌, length, sym, refl, ap, ◌∙◌, subst, arith}
 use Rattle.std.proofs.lemmas.List.{length-map}
 use Rattle.expressions.specs.declared.command.Command.{Command}
 use Rattle.expressions.specs.declared.command.Command.TheVariants.{Empty, Symbol, Join, Either, Star, Plus, Optional}
-use Rattle.expressions.specs.Expression.{Expr, empty, symbol, join, either, star, plus, optional, Labelled, Plain, plain}
+use Rattle.expressions.specs.Expression.{empty, symbol, join, either, star, plus, optional, Labelled, Plain, plain}
 use Rattle.expressions.specs.Commands.{adds, applied}
 use Rattle.expression_book.specs.declared.part.Part.{Part}
 use Rattle.expression_book.specs.declared.table.Table.{Table}

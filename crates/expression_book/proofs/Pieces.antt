@@ -1,8 +1,8 @@
 -- What expressions own, follow and take, one command after another, for any tests that say so. Assumes nothing.
-use Rattle.std.proofs.Common.{◌≡◌, ℕ, ◌≤◌, Bool, ◌&&◌, ◌||◌, eqb, leb, ◌⊎◌, List, [], ◌∷◌, Decides, sym, refl, ap, ◌∙◌, subst, inl, inr}
+use Rattle.std.proofs.Common.{◌≡◌, ℕ, ◌≤◌, Bool, ◌&&◌, ◌||◌, eqb, leb, ◌⊎◌, List, ◌∷◌, Decides, sym, subst, inl, inr}
 use Rattle.std.proofs.lemmas.Bool.{leb-true, le-leb}
 use Rattle.std.proofs.lemmas.Bool.Decides.{Decides-eqb, Decides-at, Decides-like, Decides-and, Decides-or}
-use Rattle.expressions.specs.Expression.{Expr, empty, symbol, join, either, star, plus, optional, Labelled}
+use Rattle.expressions.specs.Expression.{empty, symbol, join, either, star, plus, optional, Labelled}
 use Rattle.expressions.specs.Positions.{Owns, Disjoint, Takes, First, Last, Follow}
 use Rattle.expression_book.specs.Building.{Any, Separate, Tabled}
 

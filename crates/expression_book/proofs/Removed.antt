@@ -1,17 +1,17 @@
 -- A table from which a rule is taken: its invariants. Assumes nothing.
-use Rattle.std.proofs.Common.{◌≡◌, ℕ, ◌<◌, Bool, true, false, not, ◌&&◌, eqb, ◌⊎◌, List, length, get_or, set, is_some, Some, None, Option, sym, refl, ap, ◌∙◌, subst, inl, inr, arith}
+use Rattle.std.proofs.Common.{◌≡◌, ℕ, ◌<◌, Bool, true, false, not, ◌&&◌, eqb, ◌⊎◌, List, get_or, set, is_some, Some, None, Option, sym, refl, ap, ◌∙◌, inl, inr, arith}
 use Rattle.std.proofs.lemmas.List.{get_or-set_same, get_or-set_other}
 use Rattle.std.proofs.lemmas.Bool.{cases_eq, cases_Bool, both_ways, and_parts, and_from, eqb-true, eq-eqb, not-true}
 use Rattle.std.proofs.lemmas.Bool.Decides.{same_from_decides}
 use Rattle.states.specs.declared.state.State.{State}
 use Rattle.states.specs.Words.{Gathers}
-use Rattle.states.specs.Sets.{has, nothing}
+use Rattle.states.specs.Sets.{has}
 use Rattle.states.proofs.Members.{has_nothing}
 use Rattle.expression_book.specs.declared.table.Table.{Table}
 use Rattle.expression_book.specs.declared.row.Row.{Row}
 use Rattle.expression_book.specs.Rows.{blank, row}
 use Rattle.expression_book.specs.Tables.{owns}
-use Rattle.expression_book.specs.Laws.{in_force, rule_at, follows_at, mine}
+use Rattle.expression_book.specs.Laws.{rule_at, follows_at, mine}
 
 -- ---- the positions of a rule
 

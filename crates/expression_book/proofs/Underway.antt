@@ -1,12 +1,11 @@
 -- Between two commands of a run that spells an expression. Assumes nothing.
-use Rattle.std.proofs.Common.{◌≡◌, ℕ, zero, suc, ◌+◌, ◌-◌, ◌<◌, ◌≤◌, true, false, ◌⊎◌, List, [], ◌∷◌, length, get_or, is_some, None, Ok, Err, Option, Result, sym, refl, ap, ◌∙◌, subst, inl, inr, le_refl, arith}
+use Rattle.std.proofs.Common.{◌≡◌, ℕ, zero, suc, ◌+◌, ◌-◌, ◌<◌, ◌≤◌, true, List, [], ◌∷◌, length, get_or, is_some, None, Ok, Err, Option, Result, sym, refl, ap, ◌∙◌, subst, inl, inr, le_refl, arith}
 use Rattle.std.proofs.lemmas.List.{nil_from_length}
 use Rattle.std.proofs.lemmas.Bool.{and_parts}
 use Rattle.states.specs.Sets.{has, size}
 use Rattle.books.specs.declared.faults.Cause.{Cause}
-use Rattle.books.specs.declared.faults.CommandFault.{CommandFault}
 use Rattle.expressions.specs.declared.command.Command.{Command}
-use Rattle.expressions.specs.Expression.{Expr, Labelled, Plain, symbols}
+use Rattle.expressions.specs.Expression.{Labelled, Plain, symbols}
 use Rattle.expressions.specs.Positions.{Owns}
 use Rattle.expressions.specs.Commands.{adds, decoded, applied, alone, turn, read, read_all}
 use Rattle.expressions.specs.Rules.{needed}
@@ -18,7 +17,7 @@ use Rattle.expressions.proofs.Turns.{Onward, Front, onward, refused_at}
 use Rattle.expression_book.specs.declared.part.Part.{Part}
 use Rattle.expression_book.specs.declared.table.Table.{Table}
 use Rattle.expression_book.specs.Tables.{table_meaning, owns}
-use Rattle.expression_book.specs.Building.{AllShow, Any, taken, Building, Within, AllWithin, Ready, Roomy}
+use Rattle.expression_book.specs.Building.{AllShow, Any, taken, Building, AllWithin, Ready, Roomy}
 use Rattle.expression_book.specs.Laws.{mine}
 use Rattle.expression_book.proofs.Built.{build_none}
 use Rattle.expression_book.proofs.Obeyed.{as_many}

@@ -2,13 +2,13 @@
 use Rattle.std.specs.Prelude.{◌≡◌, ℕ, ◌<◌, ◌≤◌, Bool, true, false, cond, ◌&&◌, ◌||◌, length, is_some, Some, None, Decides, ◌==◌, nat_lt, slice_index_or, refl}
 use Rattle.std.proofs.Common.{sym, ap, ◌∙◌, inl, inr, arith}
 use Rattle.std.proofs.lemmas.List.{get_or_past}
-use Rattle.std.proofs.lemmas.Bool.{cases_lt, cases_Bool, both_ways, and_parts, and_from, eqb-true, eq-eqb, lt-ltb}
+use Rattle.std.proofs.lemmas.Bool.{cases_lt, both_ways, and_parts, and_from, eqb-true, eq-eqb, lt-ltb}
 use Rattle.std.proofs.lemmas.Bool.Decides.{same_from_decides}
 use Rattle.states.specs.declared.state.State.{State}
 use Rattle.states.specs.declared.rules.Rules.{Rules}
 use Rattle.states.specs.Words.{some, Gathers}
 use Rattle.states.specs.Sets.{has, has_rule, set_of, rules_of}
-use Rattle.states.proofs.Members.{has_set_of, has_above, has_rule_rules_of, member_below, some_member, rules_above, same_members, same_rules}
+use Rattle.states.proofs.Members.{has_set_of, has_rule_rules_of, member_below, some_member, rules_above, same_members, same_rules}
 use Rattle.books.specs.Meaning.{Meaning, Lawful, Live, touches, is}
 use Rattle.expression_book.specs.declared.table.Table.{Table}
 use Rattle.expression_book.specs.Rows.{row, takes, leads}

@@ -2,7 +2,7 @@
 ghost use Rattle.std.specs.Prelude.{◌≡◌, MatchResult, OnOk};
 ghost use Rattle.std.specs.Result.{result_err};
 ghost use Rattle.books.specs.Changes.{Added, Deleted, Changed, delete_refusal};
-ghost use Rattle.expressions.specs.Rules.{refusal as expression-refusal};
+ghost use Rattle.expressions.specs.Rules.{refusal as expression_refusal};
 ghost use Rattle.expression_book.specs.Tables.{book_meaning, book_model};
 ghost use Rattle.expression_book.specs.Promises.{Denoting, ExpressionAdded, ExpressionDeleted};
 
@@ -11,7 +11,7 @@ use books::{Book, BookFault, ChangingBook};
 use symbols::Symbol;
 
 impl<S: Symbol> ChangingBook for ExpressionBook<S> {
-    ghost refusal = { expression-refusal S.Symbol.last };
+    ghost refusal = { expression_refusal S.Symbol.last };
 
     ghost grows = { λ r k bytes. ExpressionAdded S.Symbol.last r bytes };
 
@@ -22,7 +22,7 @@ impl<S: Symbol> ChangingBook for ExpressionBook<S> {
     // more than 1,024, a command at fault, or fewer positions free than the expression has symbols, and one for its end.
     // Reads the bytes twice, and touches a row for each last position of what a command links.
     fn add(&mut self, rule: u32, kind: u32, bytes: &[u8]) -> Result<(), BookFault>
-        ensures answer { result_err result ≡ expression-refusal S.Symbol.last (book_meaning self.old) rule kind bytes.now }
+        ensures answer { result_err result ≡ expression_refusal S.Symbol.last (book_meaning self.old) rule kind bytes.now }
         ensures change { MatchResult result
             (λ _. Changed (Added rule kind) (book_model self.old) (book_model self.new))
             (λ _. self.new ≡ self.old) }

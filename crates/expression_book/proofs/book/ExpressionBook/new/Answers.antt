@@ -1,4 +1,4 @@
-use Rattle.std.proofs.Common.{◌≡◌, is_some, ap}
+use Rattle.std.proofs.Common.{is_some, ap}
 use Rattle.std.proofs.lemmas.Bool.{both_ways}
 use Rattle.expression_book.proofs.Added.{table_additive}
 use Rattle.expression_book.proofs.Expressed.{denoting}

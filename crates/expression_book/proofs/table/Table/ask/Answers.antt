@@ -1,4 +1,4 @@
-use Rattle.std.proofs.Common.{◌≡◌, ◌+◌, ◌<◌, ◌≤◌, false, length, is_some, Ok, sym, ap, ◌∙◌, arith, rules}
+use Rattle.std.proofs.Common.{◌≡◌, ◌+◌, ◌<◌, ◌≤◌, false, length, is_some, Ok, sym, ◌∙◌, arith, rules}
 use Rattle.states.specs.Sets.{has}
 use Rattle.states.proofs.Digits.{tally_below}
 use Rattle.expressions.specs.Rules.{live, needed}

@@ -10,19 +10,19 @@ use Rattle.expression_book.proofs.table.Table.delete.Goals as goal
 
 pub overflow_cast-rule : goal.overflow_cast-rule
 overflow_cast-rule c =
-    let there = sym (ap is_some c.kind.ensures) ∙ c.if-is-none.ensures in
+    let there = sym (ap is_some c.kind.ensures) ∙ c.if-is_none.ensures in
     let low = rule_below c.args.self.now c.args.rule there in
     omega arith
 
 pub remove-requires : goal.remove-requires
-remove-requires c = rule_below c.args.self.now c.args.rule (sym (ap is_some c.kind.ensures) ∙ c.if-is-none.ensures)
+remove-requires c = rule_below c.args.self.now c.args.rule (sym (ap is_some c.kind.ensures) ∙ c.if-is_none.ensures)
 
 pub returns : goal.returns
 returns c =
     let a = c.args.self.now in
     let b = c.remove.new.self in
     let r = c.args.rule in
-    let there : in_force a r ≡ true = sym (ap is_some c.kind.ensures) ∙ c.if-is-none.ensures in
+    let there : in_force a r ≡ true = sym (ap is_some c.kind.ensures) ∙ c.if-is_none.ensures in
     let gone = c.remove.ensures in
     let change = deleted r a b there gone in
     record {

@@ -16,7 +16,7 @@ loop-p-preserved c =
     let popped = c.in-Some.ensures in
     let p = c.in-Some.p in
     let within : p < length t.rows = let long = t.sizes.1 in omega arith in
-    gather_more (rule_of t) (has c.meet-rest.result) (has c.loop-p.rest) (has c.pop-lowest.new.self) (has_rule c.loop-p.out) (has_rule c.union-out.result) p
+    gather_more (rule_of t) (has c.meet-rest.result) (has c.loop-p.rest) (has c.pop_lowest.new.self) (has_rule c.loop-p.out) (has_rule c.union-out.result) p
     c.loop-p.invariant popped.0.member popped.1
     (λ q. c.union-out.ensures q ∙ ap (λ (b : Bool). has_rule c.loop-p.out q || b)
     (c.single.ensures q ∙ ap (λ (w : Row). eqb q w.rule && ltb q 64) (get_or_default t.rows p _ blank within)))

@@ -1,5 +1,4 @@
-use Rattle.std.proofs.Common.{◌≡◌, ℕ, List, ◌∷◌, length, sym, refl, ap, ◌∙◌, arith}
-use Rattle.states.specs.declared.state.State.{State}
+use Rattle.std.proofs.Common.{◌≡◌, List, ◌∷◌, length, refl, ap, ◌∙◌, arith}
 use Rattle.states.specs.Sets.{size}
 use Rattle.expressions.specs.declared.command.Command.TheVariants.{Empty, Symbol, Join, Either, Star, Plus, Optional}
 use Rattle.expression_book.specs.declared.part.Part.{Part}

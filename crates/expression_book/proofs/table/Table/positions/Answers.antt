@@ -1,8 +1,8 @@
-use Rattle.std.proofs.Common.{◌≡◌, ℕ, ◌<◌, Bool, true, false, ◌&&◌, ◌||◌, eqb, length, sym, ap, ◌∙◌, ap₂, arith}
+use Rattle.std.proofs.Common.{◌≡◌, ◌<◌, Bool, true, false, ◌&&◌, ◌||◌, eqb, length, sym, ap, ◌∙◌, arith}
 use Rattle.std.proofs.lemmas.List.{get_or_default}
 use Rattle.std.proofs.lemmas.Bool.{eq-eqb, ne_eqb}
 use Rattle.states.specs.Sets.{has}
-use Rattle.states.proofs.Gather.{Gathered, gather_none, gather_more, gather_all}
+use Rattle.states.proofs.Gather.{gather_none, gather_more, gather_all}
 use Rattle.expression_book.specs.declared.row.Row.{Row}
 use Rattle.expression_book.specs.Rows.{blank}
 use Rattle.expression_book.specs.Laws.{or_false, rule_at}
@@ -20,7 +20,7 @@ loop-p-preserved c =
     let p = c.in-Some.p in
     let within : p < length t.rows = let long = t.sizes.1 in omega arith in
     let other : eqb (rule_at t p) r ≡ false = ne_eqb _ r (λ e. c.if-self-p.false (ap (λ (w : Row). w.rule) (get_or_default t.rows p _ blank within) ∙ e)) in
-    gather_more (itself t r) (has t.live) (has c.loop-p.rest) (has c.pop-lowest.new.self) (has c.loop-p.out) (has c.loop-p.out) p
+    gather_more (itself t r) (has t.live) (has c.loop-p.rest) (has c.pop_lowest.new.self) (has c.loop-p.out) (has c.loop-p.out) p
     c.loop-p.invariant popped.0.member popped.1
     (λ q. sym (ap (λ (b : Bool). has c.loop-p.out q || (b && eqb q p)) other ∙ or_false (has c.loop-p.out q)))
 
@@ -32,7 +32,7 @@ loop-p-preserved-then-self-p c =
     let p = c.in-Some.p in
     let within : p < length t.rows = let long = t.sizes.1 in omega arith in
     let own : eqb (rule_at t p) r ≡ true = eq-eqb _ r (sym (ap (λ (w : Row). w.rule) (get_or_default t.rows p _ blank within)) ∙ c.if-self-p.true) in
-    gather_more (itself t r) (has t.live) (has c.loop-p.rest) (has c.pop-lowest.new.self) (has c.loop-p.out) (has c.with-out.result) p
+    gather_more (itself t r) (has t.live) (has c.loop-p.rest) (has c.pop_lowest.new.self) (has c.loop-p.out) (has c.with-out.result) p
     c.loop-p.invariant popped.0.member popped.1
     (λ q. c.with-out.ensures q ∙ sym (ap (λ (b : Bool). has c.loop-p.out q || (b && eqb q p)) own))
 

@@ -1,4 +1,4 @@
-use Rattle.std.proofs.Common.{◌≡◌, ℕ, ◌<◌, Some, sym, refl, ap, ◌∙◌, subst, inl, inr, arith, length-set}
+use Rattle.std.proofs.Common.{◌≡◌, ℕ, ◌<◌, Some, sym, ap, ◌∙◌, subst, inl, inr, arith, length-set}
 use Rattle.std.proofs.lemmas.Bool.{or_cases}
 use Rattle.states.specs.Sets.{has, size}
 use Rattle.expression_book.proofs.Removed.{kinds_small}
@@ -11,13 +11,17 @@ invariant_of-self c =
     let a = c.args.self.now in
     let r = c.args.rule in
     let k = c.args.kind in
-    let written : (j : ℕ) → Some k ≡ Some j → j < 4096 = λ j e. let i : k ≡ j = cc in subst (λ (x : ℕ). x < 4096) i c.requires.small in (
-      (length-set a.kinds r (Some k) ∙ a.sizes.0, a.sizes.1),
-      (
-        kinds_small a r (Some k) c.requires.number written,
-        (kind_owned a r k c.requires.number c.requires.free, (a.starting, (a.ending, (a.followed, (a.follows, (a.together, tt)))))),
-      ),
-    )
+    let written : (j : ℕ) → Some k ≡ Some j → j < 4096 = λ j e. let i : k ≡ j = cc in subst (λ (x : ℕ). x < 4096) i c.requires.small in
+    record {
+      sizes = (length-set a.kinds r (Some k) ∙ a.sizes.0, a.sizes.1);
+      small = kinds_small a r (Some k) c.requires.number written;
+      owned = kind_owned a r k c.requires.number c.requires.free;
+      starting = a.starting;
+      ending = a.ending;
+      followed = a.followed;
+      follows = a.follows;
+      together = a.together;
+    }
 
 pub link-requires : goal.link-requires
 link-requires c =
@@ -33,28 +37,23 @@ pub invariant_of-self-2 : goal.invariant_of-self-2
 invariant_of-self-2 c =
     let t = c.link.new.self in
     let (e, spelled, room) = c.requires.roomy in
-    let b = (c.build-part.ensures e spelled).0 in (
-      t.sizes,
-      (
-        t.small,
-        (
-          t.owned,
-          (
-            λ p h. elim (or_cases (has t.start p) (has c.join.result.first p) (sym (c.union-self.ensures p) ∙ h)) [
-              | inl s ↦ t.starting p s
-              | inr s ↦ first_live _ c.args.rule _ _ _ e _ _ b c.give.ensures c.symbol-end.ensures t c.link.ensures c.join.result c.join.ensures p s
-            ],
-            (
-              λ p h. elim (or_cases (has t.ends p) (has c.symbol-end.result.first p) (sym (c.union-self-2.ensures p) ∙ h)) [
-                | inl s ↦ t.ending p s
-                | inr s ↦ end_live _ c.args.rule _ _ _ e _ _ b c.give.ensures c.symbol-end.ensures t c.link.ensures c.join.result c.join.ensures p s
-              ],
-              (t.followed, (t.follows, (t.together, tt))),
-            ),
-          ),
-        ),
-      ),
-    )
+    let b = (c.build-part.ensures e spelled).0 in
+    record {
+      sizes = t.sizes;
+      small = t.small;
+      owned = t.owned;
+      starting = λ p h. elim (or_cases (has t.start p) (has c.join.result.first p) (sym (c.union-self.ensures p) ∙ h)) [
+        | inl s ↦ t.starting p s
+        | inr s ↦ first_live _ c.args.rule _ _ _ e _ _ b c.give.ensures c.symbol-end.ensures t c.link.ensures c.join.result c.join.ensures p s
+      ];
+      ending = λ p h. elim (or_cases (has t.ends p) (has c.symbol-end.result.first p) (sym (c.union-self-2.ensures p) ∙ h)) [
+        | inl s ↦ t.ending p s
+        | inr s ↦ end_live _ c.args.rule _ _ _ e _ _ b c.give.ensures c.symbol-end.ensures t c.link.ensures c.join.result c.join.ensures p s
+      ];
+      followed = t.followed;
+      follows = t.follows;
+      together = t.together;
+    }
 
 pub returns : goal.returns
 returns c e spelled =

@@ -1,4 +1,4 @@
-use Rattle.std.proofs.Common.{◌≡◌, ℕ, ◌<◌, Bool, not, ◌&&◌, Some, None, sym, refl, ap, ◌∙◌, arith, length-set}
+use Rattle.std.proofs.Common.{◌≡◌, ℕ, ◌<◌, Bool, not, ◌&&◌, Some, None, refl, ap, ◌∙◌, arith, length-set}
 use Rattle.states.specs.Sets.{has}
 use Rattle.expression_book.specs.Tables.{owns}
 use Rattle.expression_book.proofs.Removed.{kinds_small, removal_owned, removal_inside, removal_followed, removal_follows, removal_together}
@@ -15,25 +15,17 @@ invariant_of-self c =
     let lives = c.without-self.ensures in
     let cleared = c.clear.ensures.cleared in
     let kept = c.clear.ensures.kept in
-    let written : (j : ℕ) → None ≡ Some j → j < 4096 = λ j e. let z : ◌≡◌ {A = ℕ} 0 1 = cc in absurd (omega arith) in (
-      (length-set a.kinds r None ∙ a.sizes.0, c.clear.ensures.size),
-      (
-        kinds_small a r None c.requires written,
-        (
-          removal_owned a r rows gone live is lives cleared kept,
-          (
-            removal_inside a r rows gone live is lives cleared kept a.start c.without-self-2.result a.starting c.without-self-2.ensures,
-            (
-              removal_inside a r rows gone live is lives cleared kept a.ends c.without-self-3.result a.ending c.without-self-3.ensures,
-              (
-                removal_followed a r rows gone live is lives cleared kept,
-                (removal_follows a r rows gone live is lives cleared kept, (removal_together a r rows gone live is lives cleared kept, tt)),
-              ),
-            ),
-          ),
-        ),
-      ),
-    )
+    let written : (j : ℕ) → None ≡ Some j → j < 4096 = λ j e. let z : ◌≡◌ {A = ℕ} 0 1 = cc in absurd (omega arith) in
+    record {
+      sizes = (length-set a.kinds r None ∙ a.sizes.0, c.clear.ensures.size);
+      small = kinds_small a r None c.requires written;
+      owned = removal_owned a r rows gone live is lives cleared kept;
+      starting = removal_inside a r rows gone live is lives cleared kept a.start c.without-self-2.result a.starting c.without-self-2.ensures;
+      ending = removal_inside a r rows gone live is lives cleared kept a.ends c.without-self-3.result a.ending c.without-self-3.ensures;
+      followed = removal_followed a r rows gone live is lives cleared kept;
+      follows = removal_follows a r rows gone live is lives cleared kept;
+      together = removal_together a r rows gone live is lives cleared kept;
+    }
 
 pub returns : goal.returns
 returns c =

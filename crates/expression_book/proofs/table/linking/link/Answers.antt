@@ -1,4 +1,4 @@
-use Rattle.std.proofs.Common.{◌≡◌, ℕ, ◌<◌, Bool, ◌||◌, length, get_or, sym, refl, ap, ◌∙◌, arith}
+use Rattle.std.proofs.Common.{◌≡◌, ◌<◌, ◌||◌, length, get_or, ap, ◌∙◌, arith}
 use Rattle.std.proofs.lemmas.List.{get_or_default}
 use Rattle.states.specs.Sets.{has}
 use Rattle.expression_book.specs.declared.row.Row.{Row}
@@ -16,7 +16,7 @@ loop-p-preserved c =
     let p = c.in-Some.p in
     let within : p < length c.loop-p.rows = let long = c.told-rows in omega (arith, inv.size) in
     let read : (x : Row) → get_or c.loop-p.rows p x ≡ row c.loop-p.rows p = λ x. get_or_default c.loop-p.rows p x blank within in
-    edit_more (Gains c.args.first) c.args.rows.now (has c.args.last) c.loop-p.rows (has c.loop-p.rest) (has c.pop-lowest.new.self) p _
+    edit_more (Gains c.args.first) c.args.rows.now (has c.args.last) c.loop-p.rows (has c.loop-p.rest) (has c.pop_lowest.new.self) p _
     inv popped.0.member within popped.1
     (record {
       rule = ap (λ (v : Row). v.rule) (read c.index-rows-p.result);

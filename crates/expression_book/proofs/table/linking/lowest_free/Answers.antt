@@ -1,8 +1,6 @@
-use Rattle.std.proofs.Common.{◌≡◌, ℕ, Bool, not, ◌&&◌, ltb, ap, ◌∙◌}
+use Rattle.std.proofs.Common.{Bool, not, ◌&&◌, ap, ◌∙◌}
 use Rattle.std.proofs.lemmas.Option.{MatchOption-at_some}
 use Rattle.std.proofs.lemmas.Bool.{some_since}
-use Rattle.states.specs.declared.state.State.{State}
-use Rattle.states.specs.Words.{Least}
 use Rattle.states.specs.Sets.{has}
 use Rattle.expression_book.proofs.Grown.{some_free, least_free}
 use Rattle.expression_book.proofs.table.linking.lowest_free.Goals as goal

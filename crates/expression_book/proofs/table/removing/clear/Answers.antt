@@ -13,7 +13,7 @@ loop-p-preserved c =
     let popped = c.in-Some.ensures in
     let p = c.in-Some.p in
     let within : p < length c.loop-p.rows = let long = c.told-rows in omega (arith, inv.size) in
-    edit_more (λ v w. w ≡ blank) c.args.rows.now (has c.args.gone) c.loop-p.rows (has c.loop-p.rest) (has c.pop-lowest.new.self) p c.blank.result
+    edit_more (λ v w. w ≡ blank) c.args.rows.now (has c.args.gone) c.loop-p.rows (has c.loop-p.rest) (has c.pop_lowest.new.self) p c.blank.result
     inv popped.0.member within popped.1 c.blank.ensures
 
 pub returns : goal.returns
