@@ -4,14 +4,14 @@ use Rattle.lines.proofs.arguments.add.Goals as goal
 
 pub returns-in_err-rule : goal.returns-in_err-rule
 returns-in_err-rule c =
-    err_case _ _ c.from-residual.result c.from-residual.ensures.0 (λ _ k h. c.in_err-rule.ensures h.0 h.1 h.2)
+    err_case _ _ c.from_residual.result c.from_residual.ensures.0 (λ _ k h. c.in_err-rule.ensures h.0 h.1 h.2)
 
 pub returns-in_err-kind : goal.returns-in_err-kind
 returns-in_err-kind c =
-    err_case _ _ c.from-residual-in_err-kind.result c.from-residual-in_err-kind.ensures.0
+    err_case _ _ c.from_residual-in_err-kind.result c.from_residual-in_err-kind.ensures.0
     (λ _. led_refused _ _ _ _ c.in_ok-rule.ensures (λ k h. c.in_err-kind.ensures h.0 h.1 h.2))
 
 pub returns-in_err-text : goal.returns-in_err-text
 returns-in_err-text c =
-    err_case _ _ c.from-residual-in_err-text.result c.from-residual-in_err-text.ensures.0
+    err_case _ _ c.from_residual-in_err-text.result c.from_residual-in_err-text.ensures.0
     (λ _. led_refused _ _ _ _ c.in_ok-rule.ensures (led_refused _ _ _ _ c.in_ok-kind.ensures (λ k h. c.in_err-text.ensures h.0.now h.2)))

@@ -1,4 +1,4 @@
-use Rattle.std.proofs.Common.{◌≡◌, ℕ, List, ◌∷◌, ◌++◌, Some, Option, sym, ap, ◌∙◌}
+use Rattle.std.proofs.Common.{◌≡◌, ℕ, List, ◌∷◌, ◌++◌, Some, Option, ap}
 use Rattle.std.specs.Option.{option_map}
 use Rattle.lines.specs.Lines.{book_word}
 use Rattle.lines.specs.Parts.{Parts}
@@ -15,10 +15,10 @@ named whole text first rest e parts b d h = one_parting 32 text first (book_word
 
 pub returns-in_err-book : goal.returns-in_err-book
 returns-in_err-book c =
-    err_case _ _ c.from-residual.result c.from-residual.ensures.0
+    err_case _ _ c.from_residual.result c.from_residual.ensures.0
     (λ _ k h. c.in_err-book.ensures h.0 (named _ _ _ _ (ap (option_map (λ x. x.now)) c.in-Some.is) c.part.ensures h.0 h.2 h.4).0)
 
 pub returns-in_err-edition : goal.returns-in_err-edition
 returns-in_err-edition c =
-    err_case _ _ c.from-residual-in_err-edition.result c.from-residual-in_err-edition.ensures.0
+    err_case _ _ c.from_residual-in_err-edition.result c.from_residual-in_err-edition.ensures.0
     (λ _ k h. c.in_err-edition.ensures h.1 h.2 (named _ _ _ _ (ap (option_map (λ x. x.now)) c.in-Some.is) c.part.ensures h.0 h.2 h.4).1 h.5)

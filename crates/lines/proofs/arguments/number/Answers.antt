@@ -1,4 +1,4 @@
-use Rattle.std.proofs.Common.{◌≡◌, ℕ, List, Some, Ok, Err, Option, Result, sym, ap, ◌∙◌, subst, MatchResult}
+use Rattle.std.proofs.Common.{◌≡◌, ℕ, List, Some, Ok, Err, Option, Result, ap, subst, MatchResult}
 use Rattle.std.specs.Option.{option_map}
 use Rattle.lines.specs.Numerals.{Number}
 use Rattle.lines.specs.declared.command.Expected.{Expected}

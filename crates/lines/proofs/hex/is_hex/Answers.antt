@@ -1,4 +1,4 @@
-use Rattle.std.proofs.Common.{get_or, arith, rules}
+use Rattle.std.proofs.Common.{get_or, rules}
 use Rattle.lines.specs.Hex.{Pair}
 use Rattle.lines.proofs.Pairs.{hex_pair}
 use Rattle.lines.proofs.hex.is_hex.Goals as goal

@@ -33,4 +33,4 @@ pub returns-in_default : goal.returns-in_default
 returns-in_default c = λ k h. let f = first_word _ _ _ c.part.ensures k h in c.in_default.ensures f.0 f.1
 
 pub returns : goal.returns
-returns c = answered _ _ _ c.part.ensures c.in-Some.word c.in-Some.ensures c.with-arguments.result c.with-arguments.ensures
+returns c = answered _ _ _ c.part.ensures c.in-Some.word c.in-Some.ensures c.with_arguments.result c.with_arguments.ensures

@@ -11,9 +11,9 @@ pub returns-in_default-text : goal.returns-in_default-text
 returns-in_default-text c =
     λ w e.
     elim w as (λ v. c.in-Ok.text.now ≡ spelling v → ⊥) [
-      | New ↦ c.in_default-text.not_new
+      | New ↦ c.in_default-text.not-new
       | Add ↦ c.in_default-text.not-add
-      | Code ↦ c.in_default-text.not_code
+      | Code ↦ c.in_default-text.not-code
       | Delete ↦ c.in_default-text.not-delete
       | Read ↦ c.in_default-text.not-read
       | ReadHex ↦ c.in_default-text.not-readx
@@ -23,7 +23,7 @@ returns-in_default-text c =
       | FeedHex ↦ c.in_default-text.not-feedx
       | Token ↦ c.in_default-text.not-token
       | Peek ↦ c.in_default-text.not-peek
-      | Last ↦ c.in_default-text.not_last
+      | Last ↦ c.in_default-text.not-last
       | Walk ↦ c.in_default-text.not-walk
       | Finish ↦ c.in_default-text.not-finish
       | Kind ↦ c.in_default-text.not-kind
