@@ -1,4 +1,4 @@
-use Rattle.std.proofs.Common.{◌≡◌, ℕ, List, ◌∷◌, ◌++◌, Some, None, Option, sym, ap, ◌∙◌, subst, arith, lit≤}
+use Rattle.std.proofs.Common.{◌≡◌, ℕ, List, Some, None, Option, sym, ap, ◌∙◌, subst, arith, lit≤}
 use Rattle.std.specs.Option.{option_map}
 use Rattle.lines.specs.Numerals.{Number}
 use Rattle.lines.specs.Parts.{Parts}

@@ -1,4 +1,4 @@
-use Rattle.std.proofs.Common.{◌≡◌, ℕ, ◌+◌, ◌*◌, ◌≤◌, sym, refl, ap, ◌∙◌}
+use Rattle.std.proofs.Common.{◌≡◌, ◌+◌, ◌*◌, refl, ap, ◌∙◌}
 use Rattle.symbols.specs.declared.event.Event.{Event}
 use Rattle.event_words.specs.Words.{Named, event_code, named_code}
 use Rattle.event_words.proofs.words.take_word.Goals as goal
