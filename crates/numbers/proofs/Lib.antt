@@ -1,3 +1,4 @@
 mod Rows
 mod Ways
 mod Texts
+mod Expressed

@@ -5,6 +5,8 @@ use Rattle.states.specs.declared.state.State.{State}
 use Rattle.states.specs.Words.{some}
 use Rattle.states.specs.Sets.{has, set_of, rules_of}
 use Rattle.books.specs.Meaning.{Meaning, Model, counting}
+use Rattle.expressions.specs.Expression.{Plain}
+use Rattle.expressions.specs.Expression.Expr.{symbol, join, plus, optional}
 
 -- ---- the texts, as lists of codes
 
@@ -23,6 +25,19 @@ UnitMm t = (t ≡ []) ⊎ (t ≡ 109 ∷ 109 ∷ [])
 -- digits, a fraction and a unit, one after the other
 abbrev pub Number : List ℕ → Type 0
 Number t = (a : List ℕ) × (b : List ℕ) × (u : List ℕ) × (t ≡ a ++ (b ++ u)) × Digits a × Fraction b × UnitMm u
+
+-- the same as an expression: digits, perhaps '.' and digits, perhaps "mm"
+abbrev pub digit_expression : Plain
+digit_expression = symbol tt 48 57
+
+abbrev pub fraction_expression : Plain
+fraction_expression = optional (join (symbol tt 46 46) (plus digit_expression))
+
+abbrev pub unit_expression : Plain
+unit_expression = optional (join (symbol tt 109 109) (symbol tt 109 109))
+
+abbrev pub number_expression : Plain
+number_expression = join (plus digit_expression) (join fraction_expression unit_expression)
 
 -- ---- the book. Its positions are, from 0 on: a digit before '.', '.', a digit after it, 'm', 'm', and the end.
 

@@ -2,7 +2,8 @@
 ghost use Rattle.std.specs.Prelude.{◌≡◌, ℕ, true, false, ◌↔◌, List, codes};
 ghost use Rattle.states.specs.Sets.{has_rule};
 ghost use Rattle.books.specs.Texts.{meets};
-ghost use Rattle.numbers.specs.Number.{number_model, Number};
+ghost use Rattle.expressions.specs.Expression.{Denotes};
+ghost use Rattle.numbers.specs.Number.{number_expression, number_model, Number};
 ghost use Rattle.numbers.specs.contracts.book.reading.NumberBookBook.TheImpl.{ghosts as reading};
 
 use books::Noted;
@@ -21,6 +22,7 @@ impl NumberBook {
     pub fn new() -> NumberBook
         ensures model { reading.model result ≡ number_model 0 }
         ensures texts { (text : List ℕ) → has_rule (meets (reading.model result).meaning text) 0 ≡ true ↔ Number text }
+        ensures expression { (text : List ℕ) → has_rule (meets (reading.model result).meaning text) 0 ≡ true ↔ Denotes number_expression text }
         ensures examples { (has_rule (meets (reading.model result).meaning (codes "12.5mm")) 0 ≡ true) × (has_rule (meets (reading.model result).meaning (codes "12.")) 0 ≡ false) }
     {
         NumberBook { asked: 0 }
