@@ -1,15 +1,16 @@
 -- A replay under way.
-use Rattle.std.proofs.Common.{◌≡◌, ℕ, List, [], ◌∷◌, ◌++◌, map, length, sym, refl, ap, ◌∙◌, subst, ap₂, append-nil, arith}
+use Rattle.std.proofs.Common.{◌≡◌, ℕ, List, [], ◌∷◌, ◌++◌, map, length, sym, refl, ap, ◌∙◌, subst, ap₂, arith}
 use Rattle.std.proofs.lemmas.List.{map-append}
 use Rattle.books.specs.Meaning.{Model, Lawful}
 use Rattle.readings.specs.Views.{View, fresh}
 use Rattle.readings.specs.Readings.{Told}
 use Rattle.readings.specs.Calls.{Call}
 use Rattle.readings.specs.Entries.{Entry}
-use Rattle.readings.specs.Histories.{Chain, History}
+use Rattle.readings.specs.Changing.{Chain}
+use Rattle.readings.specs.Histories.{History}
 use Rattle.readings.proofs.Reaches.{Reaches, reaches_more, reaches_chain}
 use Rattle.readings.proofs.Stand.{stands}
-use Rattle.replays.specs.Replays.{call_of, told_of, count_of, Replayed}
+use Rattle.replays.specs.Replays.{call_of, told_of, count_of, Replayed, ReplayedBy}
 use Rattle.replays.specs.declared.log.Ask.{Ask}
 use Rattle.replays.specs.declared.log.Reply.{Reply}
 
@@ -44,7 +45,7 @@ module _ {S : Type 0} (code : S → ℕ) (does : Call → Told → ℕ → View 
 
   pub replaying_done : {asks all : List (Ask S)} {log : List Reply} {w : View} (b : Model) (edition : ℕ) → v ≡ fresh b edition → Lawful b.meaning
       → ((es : List Entry) → Chain does (fresh b edition) es → History (fresh b edition) es) → all ≡ asks
-      → Replaying code does v asks log w → Replayed code does (fresh b edition) all log
+      → Replaying code does v asks log w → ReplayedBy code does (fresh b edition) all log
   replaying_done {asks} {all} {log} {w} b edition new l histories e p =
       let h = subst (λ x. Reaches does x p.entries w) new p.reaches in
       let chain = reaches_chain does (fresh b edition) w p.entries h in
@@ -53,9 +54,21 @@ module _ {S : Type 0} (code : S → ℕ) (does : Call → Told → ℕ → View 
         calls = p.calls ∙ ap (map (call_of code)) (sym e);
         tells = p.tells;
         counts = p.counts;
-        history = chain;
+        chain = chain;
         stands = stands (fresh b edition) refl l p.entries (histories p.entries chain);
       }
+
+  -- a log of such calls is a history, where such calls are one
+  pub replayed_by : {asks : List (Ask S)} {log : List Reply} → ((es : List Entry) → Chain does v es → History v es)
+      → ReplayedBy code does v asks log → Replayed code v asks log
+  replayed_by histories p = record {
+    entries = p.entries;
+    calls = p.calls;
+    tells = p.tells;
+    counts = p.counts;
+    history = histories p.entries p.chain;
+    stands = p.stands;
+  }
 
 -- what is left of a list that is used up
 pub none_left : {X : Type 0} (xs : List X) → length xs ≡ 0 → xs ≡ []

@@ -1,5 +1,6 @@
 ghost use Rattle.std.specs.Prelude.{List, IfOk};
 ghost use Rattle.readings.specs.Views.{fresh};
+ghost use Rattle.readings.specs.Calls.{Does};
 ghost use Rattle.readings.specs.Changing.{Acts};
 ghost use Rattle.reader.specs.View.{view};
 ghost use Rattle.replays.specs.Replays.{call_of, told_of, count_of, Replayed, ReplayedBy};
@@ -11,7 +12,8 @@ use std::alloc::{AllocError, Global};
 
 // Does one call, and answers its reply.
 fn perform<B: ChangingBook>(reader: &mut Reader<B>, ask: Ask<B::Symbol>) -> Reply
-    ensures { Acts B.ChangingBook.refusal B.ChangingBook.grows B.ChangingBook.shrinks (call_of B.Symbol.Symbol.code ask) (told_of result) (count_of result)
+    ensures does { Does (call_of B.Symbol.Symbol.code ask) (told_of result) (count_of result) (view B.Book.model reader.old) (view B.Book.model reader.new) }
+    ensures acts { Acts B.ChangingBook.refusal B.ChangingBook.grows B.ChangingBook.shrinks (call_of B.Symbol.Symbol.code ask) (told_of result) (count_of result)
         (view B.Book.model reader.old) (view B.Book.model reader.new) }
 {
     match ask {
