@@ -1,5 +1,5 @@
 -- The arguments of a new reader are its book's name and an edition, parted by the first space.
-use Rattle.std.proofs.Common.{◌≡◌, ℕ, List, ◌∷◌, ◌++◌, Some, None, Option, sym, ap, ◌∙◌, subst}
+use Rattle.std.proofs.Common.{◌≡◌, ℕ, List, ◌∷◌, ◌++◌, Some, Option, ap, ◌∙◌, subst}
 use Rattle.scripts.specs.Parts.{Parts}
 use Rattle.scripts.specs.Numerals.{Number32}
 use Rattle.scripts.specs.Lines.{NewReader, book_word}

@@ -1,5 +1,5 @@
 -- A line spells a command exactly where its first word is the command's, and what stands behind it are its arguments.
-use Rattle.std.proofs.Common.{◌≡◌, ℕ, ◌↔◌, List, [], ◌∷◌, ◌++◌, Some, None, Ok, Err, Option, Result, sym, refl, ap, ◌∙◌, subst, Bor, MatchResult}
+use Rattle.std.proofs.Common.{◌≡◌, ℕ, ◌↔◌, List, ◌∷◌, ◌++◌, Some, None, Ok, Err, Option, Result, sym, refl, ap, ◌∙◌, subst, Bor, MatchResult}
 use Rattle.scripts.specs.Parts.{Parts}
 use Rattle.scripts.specs.Numerals.{Number}
 use Rattle.scripts.specs.Hex.{Hex}

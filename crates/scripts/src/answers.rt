@@ -5,6 +5,7 @@ ghost use Rattle.scripts.specs.Texts.{numbered, new_line, kind_text, kind_line, 
 use crate::command::{BookName, Expected};
 use books::{Book, Told};
 use states::Rules;
+use std::alloc::AllocError;
 use std::fmt;
 
 // A rule's kind, or a dash where the rule is not in force.
@@ -23,7 +24,7 @@ impl fmt::Display for KindText {
 }
 
 // A new reader over a new book.
-pub fn new_reader(out: &mut String, book: BookName, edition: u32) -> fmt::Result
+pub fn new_reader(out: &mut String, book: BookName, edition: u32) -> Result<(), AllocError>
     ensures { OnOk result (string_bytes out.new ≡ string_bytes out.old ++ new_line book edition) }
 {
     let book = book.word();
@@ -31,7 +32,12 @@ pub fn new_reader(out: &mut String, book: BookName, edition: u32) -> fmt::Result
 }
 
 // The rules that a text met, their kinds, and how many steps were worked out for it.
-pub fn read<B: Book>(out: &mut String, book: &B, rules: Rules, count: usize) -> fmt::Result
+pub fn read<B: Book>(
+    out: &mut String,
+    book: &B,
+    rules: Rules,
+    count: usize,
+) -> Result<(), AllocError>
     ensures { OnOk result (string_bytes out.new ≡ string_bytes out.old ++ read_line (B.Book.model book.now).meaning.kind rules count) }
 {
     write!(out, "read ")?;
@@ -40,7 +46,7 @@ pub fn read<B: Book>(out: &mut String, book: &B, rules: Rules, count: usize) -> 
 }
 
 // The kind of a rule, or none where the rule is not in force.
-pub fn kind(out: &mut String, rule: u32, kind: Option<u16>) -> fmt::Result
+pub fn kind(out: &mut String, rule: u32, kind: Option<u16>) -> Result<(), AllocError>
     ensures { OnOk result (string_bytes out.new ≡ string_bytes out.old ++ kind_line rule kind) }
 {
     let kind = KindText(kind);
@@ -48,27 +54,27 @@ pub fn kind(out: &mut String, rule: u32, kind: Option<u16>) -> fmt::Result
 }
 
 // How many steps were worked out so far.
-pub fn tally(out: &mut String, tally: u32) -> fmt::Result
+pub fn tally(out: &mut String, tally: u32) -> Result<(), AllocError>
     ensures { OnOk result (string_bytes out.new ≡ string_bytes out.old ++ numbered (codes "tally=") tally) }
 {
     writeln!(out, "tally={tally}")
 }
 
-pub fn edition(out: &mut String, edition: u32) -> fmt::Result
+pub fn edition(out: &mut String, edition: u32) -> Result<(), AllocError>
     ensures { OnOk result (string_bytes out.new ≡ string_bytes out.old ++ numbered (codes "edition=") edition) }
 {
     writeln!(out, "edition={edition}")
 }
 
 // The note of the book.
-pub fn note(out: &mut String, note: u32) -> fmt::Result
+pub fn note(out: &mut String, note: u32) -> Result<(), AllocError>
     ensures { OnOk result (string_bytes out.new ≡ string_bytes out.old ++ numbered (codes "note=") note) }
 {
     writeln!(out, "note={note}")
 }
 
 // Any refusal, in numbers.
-pub fn refused(out: &mut String, told: Told) -> fmt::Result
+pub fn refused(out: &mut String, told: Told) -> Result<(), AllocError>
     ensures { OnOk result (string_bytes out.new ≡ string_bytes out.old ++ refused_line told) }
 {
     let Told {
@@ -84,7 +90,7 @@ pub fn refused(out: &mut String, told: Told) -> fmt::Result
 }
 
 // The report of a malformed line, by its number in the script.
-pub fn malformed(out: &mut String, line: u64, expected: Expected) -> fmt::Result
+pub fn malformed(out: &mut String, line: u64, expected: Expected) -> Result<(), AllocError>
     ensures { OnOk result (string_bytes out.new ≡ string_bytes out.old ++ malformed_line line expected) }
 {
     let expected = expected.text();
@@ -92,7 +98,7 @@ pub fn malformed(out: &mut String, line: u64, expected: Expected) -> fmt::Result
 }
 
 // Rules, and the kind of each.
-fn write_met<B: Book>(out: &mut String, book: &B, rules: Rules) -> fmt::Result
+fn write_met<B: Book>(out: &mut String, book: &B, rules: Rules) -> Result<(), AllocError>
     ensures { OnOk result (string_bytes out.new ≡ string_bytes out.old ++ met (B.Book.model book.now).meaning.kind rules) }
 {
     write!(out, "rules=")?;
@@ -102,7 +108,7 @@ fn write_met<B: Book>(out: &mut String, book: &B, rules: Rules) -> fmt::Result
 }
 
 // The numbers of rules, with commas between them, or a dash.
-fn write_rules(out: &mut String, rules: Rules) -> fmt::Result
+fn write_rules(out: &mut String, rules: Rules) -> Result<(), AllocError>
     ensures { OnOk result (string_bytes out.new ≡ string_bytes out.old ++ listed decimal (members rules)) }
 {
     let mut rest = rules;
@@ -117,7 +123,7 @@ fn write_rules(out: &mut String, rules: Rules) -> fmt::Result
 }
 
 // The kinds of rules, in the order of their numbers, with commas between them, or a dash.
-fn write_kinds<B: Book>(out: &mut String, book: &B, rules: Rules) -> fmt::Result
+fn write_kinds<B: Book>(out: &mut String, book: &B, rules: Rules) -> Result<(), AllocError>
     ensures { OnOk result (string_bytes out.new ≡ string_bytes out.old ++ listed (λ n. kind_text ((B.Book.model book.now).meaning.kind n)) (members rules)) }
 {
     let mut rest = rules;

@@ -6,7 +6,7 @@ ghost use Rattle.scripts.specs.Sessions.{Answers, ReadAnswer, told_line};
 use crate::answers;
 use books::{Book, Noted};
 use reader::Reader;
-use std::fmt;
+use std::alloc::AllocError;
 
 // What a reader tells of itself and its book.
 #[derive(Clone, Copy)]
@@ -22,7 +22,7 @@ pub(crate) fn tell<B: Noted>(
     reader: &Reader<B>,
     question: Question,
     out: &mut String,
-) -> fmt::Result
+) -> Result<(), AllocError>
     ensures { OnOk result (string_bytes out.new ≡ string_bytes out.old ++ told_line question (view B.Book.model reader.now)) }
 {
     match question {
@@ -38,8 +38,8 @@ pub(crate) fn read<B: Book>(
     reader: &mut Reader<B>,
     text: &[B::Symbol],
     out: &mut String,
-) -> fmt::Result
-    ensures { OnOk result (Answers (ReadAnswer (map B.Symbol.Symbol.code text.now) (view model reader.old) (view model reader.new)) (string_bytes out.old) (string_bytes out.new)) }
+) -> Result<(), AllocError>
+    ensures { OnOk result (Answers (ReadAnswer (map B.Symbol.Symbol.code text.now) (view B.Book.model reader.old) (view B.Book.model reader.new)) (string_bytes out.old) (string_bytes out.new)) }
 {
     let answer = reader.read(text);
     answers::read(out, reader.book(), answer.rules, answer.count)

@@ -15,7 +15,6 @@ use crate::{answers, asking};
 use numbers::NumberBook;
 use reader::Reader;
 use std::alloc::{AllocError, Global};
-use std::fmt;
 
 // A reader over one of the books.
 #[derive(Drop)]
@@ -68,7 +67,7 @@ impl Session {
         }
     }
 
-    fn read(&mut self, text: &[u8], out: &mut String) -> fmt::Result
+    fn read(&mut self, text: &[u8], out: &mut String) -> Result<(), AllocError>
         ensures { OnOk result (Answers (ReadAnswer text.now (session_view self.old) (session_view self.new)) (string_bytes out.old) (string_bytes out.new)) }
     {
         match &mut self.reader {
@@ -76,7 +75,7 @@ impl Session {
         }
     }
 
-    fn tell(&self, question: Question, out: &mut String) -> fmt::Result
+    fn tell(&self, question: Question, out: &mut String) -> Result<(), AllocError>
         ensures { OnOk result (string_bytes out.new ≡ string_bytes out.old ++ told_line question (session_view self.now)) }
     {
         match &self.reader {

@@ -11,7 +11,7 @@ one_text u t e = cc
 
 pub returns-in_err-book : goal.returns-in_err-book
 returns-in_err-book c =
-    let p = err_from_is_err_and c.from-residual.result c.from-residual.ensures.1 in
+    let p = err_from_is_err_and c.from_residual.result c.from_residual.ensures.1 in
     rw p.1
     (λ t a e h.
     let k = subst (λ u. NewReader u a.0 a.1) (one_text c.in-Some.text.now t (sym (ap (option_map (λ x. x.now)) c.in-Some.is) ∙ e)) h in
@@ -20,7 +20,7 @@ returns-in_err-book c =
 
 pub returns-in_err-edition : goal.returns-in_err-edition
 returns-in_err-edition c =
-    let p = err_from_is_err_and c.from-residual-in_err-edition.result c.from-residual-in_err-edition.ensures.1 in
+    let p = err_from_is_err_and c.from_residual-in_err-edition.result c.from_residual-in_err-edition.ensures.1 in
     rw p.1
     (λ t a e h.
     let k = subst (λ u. NewReader u a.0 a.1) (one_text c.in-Some.text.now t (sym (ap (option_map (λ x. x.now)) c.in-Some.is) ∙ e)) h in

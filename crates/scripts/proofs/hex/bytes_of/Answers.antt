@@ -1,5 +1,5 @@
-use Rattle.std.proofs.Common.{◌≡◌, [], ◌∷◌, ◌++◌, get_or, vec_items, sym, ap, ◌∙◌, append_assoc, rules}
-use Rattle.scripts.specs.Hex.{Pair, written}
+use Rattle.std.proofs.Common.{[], ◌∷◌, vec_items, append_assoc, rules}
+use Rattle.scripts.specs.Hex.{written}
 use Rattle.scripts.proofs.Pairs.{hex_pair, written_pair, behind}
 use Rattle.scripts.proofs.hex.bytes_of.Goals as goal
 

@@ -1,4 +1,4 @@
-use Rattle.std.proofs.Common.{get_or, arith, rules}
+use Rattle.std.proofs.Common.{get_or, rules}
 use Rattle.scripts.specs.Hex.{Pair}
 use Rattle.scripts.proofs.Pairs.{hex_pair}
 use Rattle.scripts.proofs.hex.is_hex.Goals as goal

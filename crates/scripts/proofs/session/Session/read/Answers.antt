@@ -5,7 +5,7 @@ use Rattle.scripts.specs.declared.session.AnyReader.{AnyReader}
 use Rattle.scripts.specs.declared.session.AnyReader.TheVariants.{Numbers}
 use Rattle.scripts.proofs.session.Session.read.Goals as goal
 
-only : (s : AnyReader) → (r : Reader NumberBook ℕ) × (s ≡ Numbers r)
+only : (s : AnyReader) → (r : Reader NumberBook ℕ _ _) × (s ≡ Numbers r)
 only (Numbers r) = (r, refl)
 
 pub returns : goal.returns
