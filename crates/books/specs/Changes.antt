@@ -1,5 +1,5 @@
 -- What adding and deleting a rule do to a book's meaning.
-use Rattle.std.specs.Prelude.{◌≡◌, ℕ, Bool, true, false, cond, ◌↔◌, is_some, Some, None, Option, ◌≢◌}
+use Rattle.std.specs.Prelude.{◌≡◌, ℕ, true, false, cond, ◌↔◌, is_some, Some, None, Option, ◌≢◌}
 use Rattle.states.specs.declared.state.State.{State}
 use Rattle.states.specs.Sets.{has}
 use Rattle.books.specs.Meaning.{Meaning, Model, InForce, is, touches}

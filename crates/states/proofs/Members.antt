@@ -1,16 +1,16 @@
 -- The members of a state, from its two words. Assumes nothing.
-use Rattle.std.proofs.Common.{◌≡◌, ℕ, suc, ◌+◌, ◌-◌, ◌*◌, ◌/◌, ◌%◌, ◌^◌, ◌<◌, ◌≤◌, Bool, true, false, not, ◌&&◌, ◌||◌, eqb, ltb, Decides, sym, refl, ap, ◌∙◌, subst, ap₂, inl, inr, add-zero, add_comm, zero-add, add-one, arith, pow-add}
+use Rattle.std.proofs.Common.{◌≡◌, ℕ, ◌+◌, ◌-◌, ◌*◌, ◌/◌, ◌%◌, ◌^◌, ◌<◌, ◌≤◌, Bool, true, false, not, ◌&&◌, ◌||◌, eqb, ltb, Decides, sym, refl, ap, ◌∙◌, ap₂, inl, inr, add-zero, add_comm, zero-add, add-one, arith, pow-add}
 use mathlib.Core.HLevel.{×_prop, is_prop→PathP}
 use native.Mathlib.Bridge.{le_prop}
 use lib.Pow.{mod-pow-add, high, low}
-use lib.Bits.{bit_and, bit_or, bit_xor, and_block, or_block, xor_block, and_lt, or_lt, or_shifted}
+use lib.Bits.{bit_and, bit_or, bit_xor, and_block, or_block, xor_block, and_lt, or_shifted}
 use lib.Count.{ones, ones_cat, count_trailing_zeros}
 use Rattle.std.proofs.lemmas.Bool.{cases_lt, cases_eq, cases_Bool, both_ways, and_parts, and_from, and_left, and_right, eqb-true, eq-eqb, ne_eqb, lt-ltb, le-ltb}
 use Rattle.std.proofs.lemmas.Bool.Decides.{Decides-below_or, same_from_decides}
 use Rattle.states.specs.declared.state.State.{State}
 use Rattle.states.specs.declared.rules.Rules.{Rules}
 use Rattle.states.specs.Sets.{number, has, set_of, same, is_empty, nothing, size, shares, has_rule, rules_of, no_rule}
-use Rattle.states.specs.Words.{bit, tally, some, Least, Gathers}
+use Rattle.states.specs.Words.{bit, some, Least, Gathers}
 use Rattle.states.proofs.Digits.{bit_or_digit, bit_and_digit, bit_less, bit_ext, bit_above, bit_cut, bit_half, bit_first, bit_lower, bit_upper, bit_zero, bit_single, bit_ones, double_mod, lowest_digit, ones_tally, bit_digits_of}
 
 -- ---- two tests in turn, the second asked only where the first passed

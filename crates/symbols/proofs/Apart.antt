@@ -1,5 +1,5 @@
 -- Two events with the same machine and kind are the same event.
-use Rattle.std.proofs.Common.{◌≡◌, ℕ, ◌<◌}
+use Rattle.std.proofs.Common.{◌≡◌, ◌<◌}
 use mathlib.Core.HLevel.{is_prop→PathP}
 use native.Mathlib.Bridge.{le_prop}
 use Rattle.symbols.specs.declared.event.Event.{Event}

@@ -1,4 +1,4 @@
-use Rattle.std.proofs.Common.{◌≡◌, Bool, eqb}
+use Rattle.std.proofs.Common.{◌≡◌, eqb}
 use Rattle.states.specs.Sets.{is_empty}
 use Rattle.states.proofs.Members.{is_empty_decides, first_test, second_test}
 use Rattle.states.proofs.state.State.is_empty.Goals as goal
