@@ -1,15 +1,14 @@
 -- Readers made alike and given the same calls answer alike. Assumes nothing.
-use Rattle.std.proofs.Common.{◌≡◌, ℕ, Bool, List, [], ◌∷◌, Decides, Option, sym, refl, ap, ◌∙◌, subst, ap₂}
+use Rattle.std.proofs.Common.{◌≡◌, ℕ, Bool, List, [], ◌∷◌, Decides, sym, refl, ap, ◌∙◌, subst, ap₂}
 use Rattle.std.specs.List.{AllByRecursion as All}
 use Rattle.books.specs.Meaning.{Meaning, Lawful}
-use Rattle.kept.specs.Steps.{Step}
 use Rattle.readings.specs.Views.{View, Right}
 use Rattle.readings.specs.Entries.{Entry}
 use Rattle.readings.proofs.Traces.{Good}
 use Rattle.alike.specs.Runs.{Runs}
 use Rattle.alike.specs.Alike.{Past, SameCalls, Agree, sights, MadeAlike, Alike}
 use Rattle.alike.specs.declared.sight.Sight.{Sight}
-use Rattle.alike.proofs.Twins.{Twins, Stepped}
+use Rattle.alike.proofs.Twins.{Twins}
 use Rattle.alike.proofs.Calls.{call_step}
 
 agree : (last : ℕ) (v w : View) (past : Past) (es fs : List Entry) → Good v → Good w → w.edition ≡ v.edition →

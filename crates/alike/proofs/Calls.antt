@@ -1,27 +1,25 @@
 -- The same call of two readers over books with the same rules tells the same, and leaves books with the same rules. Assumes nothing.
-use Rattle.std.proofs.Common.{◌≡◌, ℕ, ◌+◌, ◌<◌, ◌≤◌, true, false, ◌⊎◌, List, [], ◌∷◌, length, drop, is_some, Some, None, Option, sym, refl, ap, ◌∙◌, subst, ap₂, inl, inr, le_refl, arith}
+use Rattle.std.proofs.Common.{◌≡◌, ℕ, ◌+◌, false, List, [], drop, is_some, Some, None, Option, sym, refl, ap, ◌∙◌, subst, inl, inr, le_refl, arith}
 use Rattle.std.proofs.lemmas.Bool.{both_ways}
-use Rattle.std.specs.List.{AllByRecursion as All}
 use Rattle.states.specs.declared.state.State.{State}
 use Rattle.states.specs.declared.rules.Rules.{Rules}
-use Rattle.books.specs.Meaning.{Meaning, Lawful, Within}
-use Rattle.books.specs.Texts.{after, meets}
+use Rattle.books.specs.Meaning.{Meaning}
+use Rattle.books.specs.Texts.{meets}
 use Rattle.books.specs.declared.faults.BookFault.{BookFault}
 use Rattle.books.specs.declared.refusal.Refusal.{Refusal}
 use Rattle.books.specs.declared.refusal.Refusal.TheVariants.{LastEdition, Book, StaleWalk}
 use Rattle.kept.specs.Steps.{Step}
-use Rattle.readings.specs.Views.{View, Right}
-use Rattle.readings.specs.Readings.{Reading, Told, Searches, Reads, refusing}
-use Rattle.readings.specs.Readings.Reading.{whole, token, peek, feed}
-use Rattle.readings.specs.Readings.Told.{changed, ended, matched, walking, refused}
-use Rattle.readings.specs.Calls.{Call, Leaves, Refuses, Changes, ChangesOr, Ours, IfOurs, Does, final}
-use Rattle.readings.specs.Calls.Call.{read, add, delete, begin, finish}
-use Rattle.readings.specs.Entries.{Entry}
+use Rattle.readings.specs.Views.{View}
+use Rattle.readings.specs.Readings.{Told, Searches, Reads}
+use Rattle.readings.specs.Readings.Reading.{whole, feed}
+use Rattle.readings.specs.Readings.Told.{changed, ended, walking}
+use Rattle.readings.specs.Calls.{Call, Leaves, Refuses, Changes, ChangesOr, Ours, IfOurs, Does}
+use Rattle.readings.specs.Calls.Call.{add, delete, begin}
 use Rattle.readings.proofs.Traces.{Good, traces}
 use Rattle.expressions.specs.Rules.{Additive, SameRules, refusal}
 use Rattle.expressions.proofs.Alike.{meets_same, refusal_same}
-use Rattle.alike.specs.Runs.{ExpressionActs, Runs}
-use Rattle.alike.specs.Alike.{Past, Has, SameCall, SameCalls, sight, Agree, MadeAlike, Alike}
+use Rattle.alike.specs.Runs.{ExpressionActs}
+use Rattle.alike.specs.Alike.{Past, Has, SameCall, sight}
 use Rattle.alike.specs.Alike.SameCall.{wholes, tokens, peeks, begins, feeds, finishes, adds, deletes}
 use Rattle.alike.proofs.Changing.{run_does, added_same, deleted_same}
 use Rattle.alike.proofs.Twins.{Walked, Twins, Known, walk_within, fed_more, Stays, leaves_stays, reads_stays, Stepped, stays_step, search_same, search_known}

@@ -1,8 +1,8 @@
 -- A change of the same rule leaves books with the same rules. Assumes nothing.
-use Rattle.std.proofs.Common.{◌≡◌, ℕ, true, false, ◌⊎◌, ◌↔◌, List, is_some, sym, refl, ap, ◌∙◌, subst, inl, inr}
+use Rattle.std.proofs.Common.{◌≡◌, ℕ, List, is_some, sym, refl, ap, ◌∙◌, subst, inl, inr}
 use Rattle.std.proofs.lemmas.Bool.{both_ways, cases_eq}
 use Rattle.books.specs.Meaning.{Meaning, InForce}
-use Rattle.books.specs.Changes.{Elsewhere, Added, Deleted, Changed}
+use Rattle.books.specs.Changes.{Elsewhere}
 use Rattle.readings.specs.Views.{View}
 use Rattle.readings.specs.Readings.{Told}
 use Rattle.readings.specs.Calls.{Call, Does}

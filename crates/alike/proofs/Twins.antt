@@ -1,13 +1,12 @@
 -- Two readers over books with the same rules, whose walks of the present edition were fed the same texts. Assumes nothing.
-use Rattle.std.proofs.Common.{◌≡◌, ℕ, ◌+◌, ◌<◌, ◌≤◌, Bool, true, false, ◌⊎◌, List, [], ◌∷◌, ◌++◌, length, take, drop, sym, refl, ap, ◌∙◌, subst, inl, inr, arith}
+use Rattle.std.proofs.Common.{◌≡◌, ℕ, ◌≤◌, List, [], ◌∷◌, ◌++◌, take, sym, refl, ap, ◌∙◌, subst, inl, inr}
 use Rattle.std.proofs.lemmas.Bool.{both_ways, cases_order}
 use Rattle.states.specs.declared.state.State.{State}
-use Rattle.states.specs.declared.rules.Rules.{Rules}
 use Rattle.states.specs.Sets.{no_rule}
 use Rattle.books.specs.Meaning.{Meaning, Lawful, Within}
 use Rattle.books.specs.Texts.{after, meets}
-use Rattle.readings.specs.Views.{View, Sound}
-use Rattle.readings.specs.Readings.{Reading, Told, Tells, Longest, Searches, Reads, from}
+use Rattle.readings.specs.Views.{View}
+use Rattle.readings.specs.Readings.{Reading, Told, Tells, Searches, Reads, from}
 use Rattle.readings.specs.Readings.Told.{changed, ended, matched, walking, refused}
 use Rattle.readings.specs.Readings.Searches.{finds, fails}
 use Rattle.readings.specs.Calls.{Leaves}

@@ -1,3 +1,4 @@
 -- Readers over expression books, and when two of them answer alike.
 pub mod Runs
 pub mod Alike
+pub mod Sights

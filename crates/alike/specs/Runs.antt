@@ -3,9 +3,8 @@ use Rattle.std.specs.Prelude.{ℕ, List}
 use Rattle.readings.specs.Views.{View}
 use Rattle.readings.specs.Readings.{Told}
 use Rattle.readings.specs.Calls.{Call}
-use Rattle.readings.specs.Changing.{Acts}
+use Rattle.readings.specs.Changing.{Acts, Chain}
 use Rattle.readings.specs.Entries.{Entry}
-use Rattle.readings.specs.Histories.{Chain}
 use Rattle.expressions.specs.Rules.{refusal}
 use Rattle.expression_book.specs.Promises.{ExpressionAdded, ExpressionDeleted}
 

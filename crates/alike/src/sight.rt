@@ -1,7 +1,10 @@
 // What a caller sees of what a call tells.
 ghost use Rattle.std.specs.Prelude.{◌≡◌, Decides};
 ghost use Rattle.std.specs.Cmp.Rules.{comparing};
+ghost use Rattle.std.specs.Ordering.{on};
+ghost use Rattle.std.specs.Str.{bytes_eq};
 ghost use Rattle.std.proofs.Common.{rules};
+ghost use Rattle.alike.specs.Sights.{shown};
 
 use states::Rules;
 
@@ -21,11 +24,14 @@ pub enum Sight {
 }
 
 impl PartialEq for Sight {
-    ghost equals = { λ a b r. Decides r (a ≡ b) };
+    ghost eq = { on shown bytes_eq };
 
     ghost laws = { Prim.search (comparing, rules) };
 
-    fn eq(&self, other: &Sight) -> bool {
+    fn eq(&self, other: &Sight) -> bool
+        ensures value { result ≡ on shown bytes_eq self.now other.now }
+        ensures same { Decides result (self.now ≡ other.now) }
+    {
         match *self {
             Sight::Changed(a) => match *other {
                 Sight::Changed(b) => a == b,
