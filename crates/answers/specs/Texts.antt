@@ -1,5 +1,5 @@
 -- The text of answers.
-use Rattle.std.specs.Prelude.{ℕ, zero, suc, ◌+◌, ◌-◌, ◌/◌, ◌%◌, Bool, true, false, cond, not, ◌&&◌, List, [], ◌∷◌, ◌++◌, Some, None, codes, decimal, filter, Option, ◌==◌, nat_le, nat_lt}
+use Rattle.std.specs.Prelude.{ℕ, zero, suc, ◌+◌, ◌/◌, ◌%◌, Bool, true, false, cond, not, ◌&&◌, List, [], ◌∷◌, ◌++◌, Some, None, codes, decimal, filter, Option, ◌==◌, nat_le, nat_lt}
 use Rattle.states.specs.Sets.{has_rule}
 use Rattle.states.specs.declared.rules.Rules.{Rules}
 use Rattle.books.specs.declared.refusal.Told.{Told}

@@ -2,10 +2,10 @@
 ghost use Rattle.std.specs.Prelude.{◌≡◌, ◌<◌, ◌++◌, string_bytes, OnOk};
 ghost use Rattle.answers.specs.Texts.{hex_digit, plain, shown_byte, shown_bytes};
 
-use std::fmt;
+use std::alloc::AllocError;
 
 // Bytes one after the other.
-pub(crate) fn write_bytes(out: &mut String, bytes: &[u8]) -> fmt::Result
+pub(crate) fn write_bytes(out: &mut String, bytes: &[u8]) -> Result<(), AllocError>
     ensures { OnOk result (string_bytes out.new ≡ string_bytes out.old ++ shown_bytes bytes.now) }
 {
     for byte in bytes {
@@ -15,7 +15,7 @@ pub(crate) fn write_bytes(out: &mut String, bytes: &[u8]) -> fmt::Result
 }
 
 // A byte as it stands where it is printable, else as \x and two hex digits; so are the quotation mark and the backslash.
-fn write_byte(out: &mut String, byte: u8) -> fmt::Result
+fn write_byte(out: &mut String, byte: u8) -> Result<(), AllocError>
     ensures { OnOk result (string_bytes out.new ≡ string_bytes out.old ++ shown_byte byte) }
 {
     if is_plain(byte) {

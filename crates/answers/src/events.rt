@@ -3,11 +3,11 @@ ghost use Rattle.std.specs.Prelude.{◌≡◌, ◌++◌, map, string_bytes, OnOk
 ghost use Rattle.symbols.specs.contracts.event.EventSymbol.TheImpl.{ghosts as event-symbol};
 ghost use Rattle.answers.specs.Texts.{event_text, shown_events};
 
-use std::fmt;
+use std::alloc::AllocError;
 use symbols::Event;
 
 // Events with a space between them.
-pub(crate) fn write_events(out: &mut String, events: &[Event]) -> fmt::Result
+pub(crate) fn write_events(out: &mut String, events: &[Event]) -> Result<(), AllocError>
     ensures { OnOk result (string_bytes out.new ≡ string_bytes out.old ++ shown_events (map event-symbol.code events.now)) }
 {
     let [first, rest @ ..] = events else {
@@ -21,7 +21,7 @@ pub(crate) fn write_events(out: &mut String, events: &[Event]) -> fmt::Result
     Ok(())
 }
 
-fn write_event(out: &mut String, event: Event) -> fmt::Result
+fn write_event(out: &mut String, event: Event) -> Result<(), AllocError>
     ensures { OnOk result (string_bytes out.new ≡ string_bytes out.old ++ event_text (event-symbol.code event)) }
 {
     let machine = event.machine();

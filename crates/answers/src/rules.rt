@@ -4,6 +4,7 @@ ghost use Rattle.answers.specs.Texts.{kind_text, members, listed, met};
 
 use books::Book;
 use states::Rules;
+use std::alloc::AllocError;
 use std::fmt;
 
 // A rule's kind, or a dash where the rule is not in force.
@@ -22,7 +23,7 @@ impl fmt::Display for KindText {
 }
 
 // Rules, and the kind of each.
-pub(crate) fn write_met<B: Book>(out: &mut String, book: &B, rules: Rules) -> fmt::Result
+pub(crate) fn write_met<B: Book>(out: &mut String, book: &B, rules: Rules) -> Result<(), AllocError>
     ensures { OnOk result (string_bytes out.new ≡ string_bytes out.old ++ met (B.Book.model book.now).meaning.kind rules) }
 {
     write!(out, "rules=")?;
@@ -32,7 +33,7 @@ pub(crate) fn write_met<B: Book>(out: &mut String, book: &B, rules: Rules) -> fm
 }
 
 // The numbers of rules, with commas between them, or a dash.
-fn write_rules(out: &mut String, rules: Rules) -> fmt::Result
+fn write_rules(out: &mut String, rules: Rules) -> Result<(), AllocError>
     ensures { OnOk result (string_bytes out.new ≡ string_bytes out.old ++ listed decimal (members rules)) }
 {
     let mut rest = rules;
@@ -47,7 +48,7 @@ fn write_rules(out: &mut String, rules: Rules) -> fmt::Result
 }
 
 // The kinds of rules, in the order of their numbers, with commas between them, or a dash.
-fn write_kinds<B: Book>(out: &mut String, book: &B, rules: Rules) -> fmt::Result
+fn write_kinds<B: Book>(out: &mut String, book: &B, rules: Rules) -> Result<(), AllocError>
     ensures { OnOk result (string_bytes out.new ≡ string_bytes out.old ++ listed (λ n. kind_text ((B.Book.model book.now).meaning.kind n)) (members rules)) }
 {
     let mut rest = rules;

@@ -1,4 +1,4 @@
-use Rattle.std.proofs.Common.{◌≡◌, Bool, string_bytes, sym, ap}
+use Rattle.std.proofs.Common.{string_bytes, sym, ap}
 use Rattle.answers.specs.Texts.{feed_line}
 use Rattle.answers.proofs.Appending.{same_text}
 use Rattle.answers.proofs.answers.fed.Goals as goal

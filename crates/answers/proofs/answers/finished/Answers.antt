@@ -10,6 +10,6 @@ returns g c =
     let end = string_bytes c.writeln.new.self in
     let rules = met (g.B.Book.model c.args.book.now).meaning.kind c.args.rules in
     let one = string_bytes c.write.new.self in
-    let two = string_bytes c.write-met.new.out in
+    let two = string_bytes c.write_met.new.out in
     appended r out (codes "finish ") (rules ++ (10 ∷ [])) one end c.in_ok-write.ensures.bytes
-    (appended r one rules (10 ∷ []) two end c.in_ok-write-met.ensures c.writeln.ensures.bytes)
+    (appended r one rules (10 ∷ []) two end c.in_ok-write_met.ensures c.writeln.ensures.bytes)

@@ -12,7 +12,7 @@ returns c =
     let head = span (codes "last") c.args.place (length bytes) in
     let one = string_bytes c.write.new.self in
     let two = string_bytes c.write-2.new.self in
-    let three = string_bytes c.write-bytes.new.out in
+    let three = string_bytes c.write_bytes.new.out in
     appended r out head (codes " text=" ++ (34 ∷ (shown_bytes bytes ++ (34 ∷ 10 ∷ [])))) one end c.in_ok-write.ensures.bytes
     (appended r one (codes " text=" ++ (34 ∷ [])) (shown_bytes bytes ++ (34 ∷ 10 ∷ [])) two end c.in_ok-write-2.ensures.bytes
-    (appended r two (shown_bytes bytes) (34 ∷ 10 ∷ []) three end c.in_ok-write-bytes.ensures c.writeln.ensures.bytes))
+    (appended r two (shown_bytes bytes) (34 ∷ 10 ∷ []) three end c.in_ok-write_bytes.ensures c.writeln.ensures.bytes))

@@ -11,6 +11,6 @@ returns g c =
     let rules = met (g.B.Book.model c.args.book.now).meaning.kind c.args.rules in
     let count = numbered (codes " count=") c.args.count in
     let one = string_bytes c.write.new.self in
-    let two = string_bytes c.write-met.new.out in
+    let two = string_bytes c.write_met.new.out in
     appended r out (codes "read ") (rules ++ count) one end c.in_ok-write.ensures.bytes
-    (appended r one rules count two end c.in_ok-write-met.ensures c.writeln.ensures.bytes)
+    (appended r one rules count two end c.in_ok-write_met.ensures c.writeln.ensures.bytes)

@@ -14,7 +14,7 @@ returns g c =
     let count = numbered (codes " count=") t.count in
     let one = string_bytes c.write.new.self in
     let two = string_bytes c.write-2.new.self in
-    let three = string_bytes c.write-met.new.out in
+    let three = string_bytes c.write_met.new.out in
     appended r out head (codes " " ++ (rules ++ count)) one end c.in_ok-write.ensures.bytes
     (appended r one (codes " ") (rules ++ count) two end c.in_ok-write-2.ensures.bytes
-    (appended r two rules count three end c.in_ok-write-met.ensures c.writeln.ensures.bytes))
+    (appended r two rules count three end c.in_ok-write_met.ensures c.writeln.ensures.bytes))

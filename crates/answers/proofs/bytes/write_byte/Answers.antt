@@ -1,4 +1,4 @@
-use Rattle.std.proofs.Common.{◌≡◌, ℕ, ◌+◌, ◌/◌, ◌%◌, ◌<◌, ◌≤◌, Bool, true, false, cond, not, ◌&&◌, eqb, ltb, leb, [], ◌∷◌, ◌++◌, string_bytes, sym, refl, ap, ◌∙◌, subst, inl, inr, arith, rules}
+use Rattle.std.proofs.Common.{◌≡◌, ℕ, ◌/◌, ◌%◌, ◌<◌, true, false, [], ◌∷◌, ◌++◌, string_bytes, sym, ap, ◌∙◌, subst, arith}
 use lib.Utf8.{encode}
 use Rattle.std.proofs.lemmas.Str.Ascii.{encode_ascii}
 use Rattle.std.proofs.lemmas.Bool.{cond-true, cond-false}
@@ -25,15 +25,15 @@ shown_hex b h l small k e f =
     let w = cond-false (plain b) (b ∷ []) (92 ∷ 120 ∷ hex_digit (b / 16) ∷ hex_digit (b % 16) ∷ []) k in
     cc
 
-pub returns-then-is-plain : goal.returns-then-is-plain
-returns-then-is-plain c =
-    let e = shown_plain c.args.byte c.from-itself.result (sym c.is-plain.ensures ∙ c.if-is-plain.true) c.from-itself.ensures in
+pub returns-then-is_plain : goal.returns-then-is_plain
+returns-then-is_plain c =
+    let e = shown_plain c.args.byte c.from-itself.result (sym c.is_plain.ensures ∙ c.if-is_plain.true) c.from-itself.ensures in
     same_text c.write.result (string_bytes c.args.out.now) (encode c.from-itself.result) (shown_byte c.args.byte) (string_bytes c.write.new.self) e c.write.ensures.bytes
 
-pub returns-else-is-plain : goal.returns-else-is-plain
-returns-else-is-plain c =
-    let high = c.hex-digit-high.result in
-    let low = c.hex-digit-low.result in
-    let e = shown_hex c.args.byte high low (omega arith) (sym c.is-plain.ensures ∙ c.if-is-plain.false) c.hex-digit-high.ensures c.hex-digit-low.ensures in
-    same_text c.write-else-is-plain.result (string_bytes c.args.out.now) (92 ∷ 120 ∷ (encode high ++ encode low)) (shown_byte c.args.byte) (string_bytes c.write-else-is-plain.new.self) e
-    c.write-else-is-plain.ensures.bytes
+pub returns-else-is_plain : goal.returns-else-is_plain
+returns-else-is_plain c =
+    let high = c.hex_digit-high.result in
+    let low = c.hex_digit-low.result in
+    let e = shown_hex c.args.byte high low (omega arith) (sym c.is_plain.ensures ∙ c.if-is_plain.false) c.hex_digit-high.ensures c.hex_digit-low.ensures in
+    same_text c.write-else-is_plain.result (string_bytes c.args.out.now) (92 ∷ 120 ∷ (encode high ++ encode low)) (shown_byte c.args.byte) (string_bytes c.write-else-is_plain.new.self) e
+    c.write-else-is_plain.ensures.bytes

@@ -1,5 +1,4 @@
 use Rattle.std.proofs.Common.{◌≡◌, ℕ, ◌+◌, ◌*◌, ◌/◌, ◌%◌, ◌<◌, ◌∷◌, ◌++◌, string_bytes, decimal, sym, ap, ◌∙◌, arith}
-use Rattle.symbols.specs.declared.event.Event.{Event}
 use Rattle.answers.specs.Texts.{event_text}
 use Rattle.answers.proofs.Appending.{same_text}
 use Rattle.answers.proofs.events.write_event.Goals as goal
