@@ -2,7 +2,7 @@
 use Rattle.std.specs.Option.{option_map}
 use Rattle.readings.specs.Views.{View}
 use Rattle.reader.specs.View.{view}
-use Rattle.numbers.specs.contracts.book.reading.NumberBookBook.TheImpl.{ghosts as number-reading}
+use Rattle.numbers.specs.contracts.book.reading.NumberBookBook.TheImpl.{ghosts as number_reading}
 use Rattle.scripts.specs.declared.session.AnyReader.{AnyReader}
 use Rattle.scripts.specs.declared.session.AnyReader.TheVariants.{Numbers}
 use Rattle.scripts.specs.declared.session.Session.{Session}
@@ -10,7 +10,7 @@ use Rattle.scripts.specs.declared.script.Script.{Script}
 use Rattle.scripts.specs.Scripts.{Place}
 
 abbrev reader_view : AnyReader → View
-reader_view (Numbers r) = view number-reading.model r
+reader_view (Numbers r) = view number_reading.model r
 
 abbrev pub session_view : Session → View
 session_view s = reader_view s.reader
