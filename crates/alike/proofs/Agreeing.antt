@@ -1,6 +1,6 @@
 -- Readers made alike and given the same calls answer alike. Assumes nothing.
 use Rattle.std.proofs.Common.{◌≡◌, ℕ, Bool, List, [], ◌∷◌, Decides, sym, refl, ap, ◌∙◌, subst, ap₂}
-use Rattle.std.specs.List.{AllByRecursion as All}
+use Rattle.std.specs.List.{AllByRecursion}
 use Rattle.books.specs.Meaning.{Meaning, Lawful}
 use Rattle.readings.specs.Views.{View, Right}
 use Rattle.readings.specs.Entries.{Entry}
@@ -29,7 +29,7 @@ made_agree last v w es fs made =
     (record { lawful = made.lawful; additive = made.additive; same = made.same; walks = λ e e' s s' h. absurd h })
   where
     good : (u : View) → u.kept ≡ [] → Lawful u.book.meaning → Good u
-    good u none law = record { lawful = law; sound = subst (All (Right u.book.meaning)) (sym none) tt }
+    good u none law = record { lawful = law; sound = subst (AllByRecursion (Right u.book.meaning)) (sym none) tt }
 
 -- who agrees sees the same
 agree_sights : (es fs : List Entry) → Agree es fs → sights es ≡ sights fs

@@ -1,7 +1,7 @@
 -- Words one after the other, and that a word names one event.
 use Rattle.std.proofs.Common.{◌≡◌, ℕ, suc, ◌<◌, Bool, true, false, ◌&&◌, eqb, List, [], ◌∷◌, ◌++◌, map, length, Some, None, Ok, Err, Option, sym, refl, ap, ◌∙◌, subst, append_assoc, append-nil, arith, length-append}
 use mathlib.Core.List.{map-append}
-use Rattle.std.specs.List.{AllByRecursion as All}
+use Rattle.std.specs.List.{AllByRecursion}
 use Rattle.std.proofs.lemmas.Bool.{cond-false, eqb-true, false≢true, ne_eqb, true≢false}
 use Rattle.symbols.specs.declared.event.Event.{Event}
 use Rattle.lines.specs.Parts.{Lacks, Parts}
@@ -49,11 +49,11 @@ names_among [] vs w (n ∷ ns) h = (n, h.0)
 names_among (v ∷ ws) vs w [] h = absurd h
 names_among (v ∷ ws) vs w (n ∷ ns) h = names_among ws vs w ns h.1
 
-pub all_more : (ns : List Named) (n : Named) → All InRange ns → InRange n → All InRange (ns ++ (n ∷ []))
+pub all_more : (ns : List Named) (n : Named) → AllByRecursion InRange ns → InRange n → AllByRecursion InRange (ns ++ (n ∷ []))
 all_more [] n h k = (k, tt)
 all_more (m ∷ ns) n h k = (h.0, all_more ns n h.1 k)
 
-pub all_parts : (ns : List Named) (n : Named) → All InRange (ns ++ (n ∷ [])) → All InRange ns × InRange n
+pub all_parts : (ns : List Named) (n : Named) → AllByRecursion InRange (ns ++ (n ∷ [])) → AllByRecursion InRange ns × InRange n
 all_parts [] n h = (tt, h.0)
 all_parts (m ∷ ns) n h = let k = all_parts ns n h.1 in ((h.0, k.0), k.1)
 
@@ -61,7 +61,7 @@ all_parts (m ∷ ns) n h = let k = all_parts ns n h.1 in ((h.0, k.0), k.1)
 abbrev pub Done : List ℕ → Option (List ℕ) → List Event → Bool → Type 0
 Done text rest es all =
     (ws : List (List ℕ)) × (ns : List Named) × (words text ≡ ws ++ left_words rest) × NamesEach ws ns
-    × (all ≡ true → All InRange ns × (map event_code es ≡ map named_code ns)) × (all ≡ false → All InRange ns → ⊥)
+    × (all ≡ true → AllByRecursion InRange ns × (map event_code es ≡ map named_code ns)) × (all ≡ false → AllByRecursion InRange ns → ⊥)
 
 pub done_none : (text : List ℕ) (rest : Option (List ℕ)) → words text ≡ left_words rest → Done text rest [] true
 done_none text rest e = ([], [], e, tt, (λ _. (tt, refl)), λ f. absurd (true≢false f))
@@ -117,7 +117,7 @@ done_refused text t first rest es fs all OutOfRange parts d h = absurd h
 done_refused text t first rest es fs all NoMemory parts d h = tt
 
 -- all words are done
-pub done_all : (text : List ℕ) (es : List Event) (all : Bool) → Done text None es all → (ns : List Named) × NamesEach (words text) ns × (all ≡ true → All InRange ns × (map event_code es ≡ map named_code ns)) × (all ≡ false → All InRange ns → ⊥)
+pub done_all : (text : List ℕ) (es : List Event) (all : Bool) → Done text None es all → (ns : List Named) × NamesEach (words text) ns × (all ≡ true → AllByRecursion InRange ns × (map event_code es ≡ map named_code ns)) × (all ≡ false → AllByRecursion InRange ns → ⊥)
 done_all text es all d = (d.1, subst (λ ws. NamesEach ws d.1) (sym (d.2 ∙ append-nil d.0)) d.3, d.4, d.5)
 
 pub words_some : (text : List ℕ) → (eqb (length text) 0 ≡ false) → words text ≡ left_words (Some text)

@@ -1,6 +1,6 @@
 -- Texts of events: words of a machine, a point and a kind, with a space between them.
 use Rattle.std.specs.Prelude.{◌≡◌, ℕ, ◌+◌, ◌*◌, ◌≤◌, Bool, true, false, cond, List, [], ◌∷◌, ◌++◌, map, Ok, Err, vec_items, Result, Vec, ◌==◌}
-use Rattle.std.specs.List.{AllByRecursion as All}
+use Rattle.std.specs.List.{AllByRecursion}
 use Rattle.std.specs.declared.alloc.Global.{Global}
 use Rattle.symbols.specs.declared.event.Event.{Event}
 use Rattle.lines.specs.Numerals.{Number}
@@ -50,9 +50,9 @@ event_code e = 4096 * e.machine + e.kind
 
 -- what reading the words of a text answers: the events that they name, if each is there
 abbrev pub Spells : List ℕ → Result (Vec Event Global) NoEvents → Type 0
-Spells text (Ok v) = (ns : List Named) × NamesEach (words text) ns × All InRange ns × (map event_code (vec_items v) ≡ map named_code ns)
+Spells text (Ok v) = (ns : List Named) × NamesEach (words text) ns × AllByRecursion InRange ns × (map event_code (vec_items v) ≡ map named_code ns)
 Spells text (Err Malformed) = (ns : List Named) → NamesEach (words text) ns → ⊥
-Spells text (Err OutOfRange) = (ns : List Named) × NamesEach (words text) ns × (All InRange ns → ⊥)
+Spells text (Err OutOfRange) = (ns : List Named) × NamesEach (words text) ns × (AllByRecursion InRange ns → ⊥)
 Spells text (Err NoMemory) = Unit {0}
 
 -- what taking one word more answers, which turns the events before into those after

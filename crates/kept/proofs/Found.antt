@@ -1,7 +1,7 @@
 -- Which step is found in a list, and lists in which no state and code come twice. Assumes nothing.
 use Rattle.std.proofs.Common.{◌≡◌, ℕ, ◌+◌, ◌<◌, Bool, true, false, cond, not, eqb, List, [], ◌∷◌, ◌++◌, length, get_or, drop, is_some, Some, None, filter, Option, sym, refl, ap, ◌∙◌, subst, inl, inr}
 use Rattle.std.specs.Option.{option_or}
-use Rattle.std.specs.List.{AllByRecursion as All}
+use Rattle.std.specs.List.{AllByRecursion}
 use Rattle.std.proofs.ByRecursion.{All-weaker}
 use Rattle.std.proofs.lemmas.List.{at_drop_more}
 use Rattle.std.proofs.lemmas.Bool.{both_ways, cases_Bool, and_parts, and_from, and_left, and_right, not-true, cond-true, cond-false, eqb-true, eq-eqb, ne_eqb}
@@ -92,7 +92,7 @@ found_push_other ks k s c f = found_append ks (k ∷ []) s c ∙ ap (option_or (
     alone (Some n) = refl
 
 -- what holds of every step holds of the one that is found
-pub found_holds : (P : Step → Type 0) (ks : List Step) (s : State) (c : ℕ) (n : State) → All P ks → found ks s c ≡ Some n → P (step s c n)
+pub found_holds : (P : Step → Type 0) (ks : List Step) (s : State) (c : ℕ) (n : State) → AllByRecursion P ks → found ks s c ≡ Some n → P (step s c n)
 unfolding found
 found_holds P [] s c n a e = absurd (both_ways true (sym (ap is_some e)) refl)
 found_holds P (k ∷ ks) s c n a e = elim (cases_Bool (from k s c)) [
@@ -115,7 +115,7 @@ unfolding distinct
 distinct_cons k ks e d = and_from (not (is_some (found ks k.state k.code))) (distinct ks) (ap (λ (o : Option State). not (is_some o)) e) d
 
 -- each step is the one that is found from its state by its code
-pub distinct_found : (ks : List Step) → distinct ks ≡ true → All (λ k. found ks k.state k.code ≡ Some k.next) ks
+pub distinct_found : (ks : List Step) → distinct ks ≡ true → AllByRecursion (λ k. found ks k.state k.code ≡ Some k.next) ks
 distinct_found [] d = tt
 distinct_found (k ∷ ks) d =
     let h = distinct_parts k ks d in (

@@ -1,6 +1,6 @@
 -- A list of steps with one more kept. Assumes nothing.
 use Rattle.std.proofs.Common.{◌≡◌, ℕ, ◌<◌, ◌≤◌, true, false, leb, ◌⊎◌, List, [], ◌∷◌, ◌++◌, length, is_some, Some, None, sym, refl, ap, ◌∙◌, subst, inl, inr, arith}
-use Rattle.std.specs.List.{AllByRecursion as All}
+use Rattle.std.specs.List.{AllByRecursion}
 use Rattle.std.proofs.ByRecursion.{All-push}
 use Rattle.std.proofs.lemmas.List.{length_push}
 use Rattle.std.proofs.lemmas.Bool.{both_ways, cases_Bool, cases_lt, or_left, or_right, or_from, cond-true, cond-false, le-leb, lt-leb}
@@ -42,8 +42,8 @@ length_keep ks k h = keep_either (λ js. length js ≤ most) ks k h (λ _ l. ome
 pub distinct_keep : (ks : List Step) (k : Step) → distinct ks ≡ true → distinct (keep ks k) ≡ true
 distinct_keep ks k d = keep_either (λ js. distinct js ≡ true) ks k d (λ e _. distinct_push ks k d e)
 
-pub all_keep : (P : Step → Type 0) (ks : List Step) (k : Step) → All P ks → P k → All P (keep ks k)
-all_keep P ks k a p = keep_either (All P) ks k a (λ _ _. All-push P ks k a p)
+pub all_keep : (P : Step → Type 0) (ks : List Step) (k : Step) → AllByRecursion P ks → P k → AllByRecursion P (keep ks k)
+all_keep P ks k a p = keep_either (AllByRecursion P) ks k a (λ _ _. All-push P ks k a p)
 
 -- ---- what is found after it
 

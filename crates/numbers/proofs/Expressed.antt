@@ -1,6 +1,6 @@
 -- The texts that are numbers are those that the number book's expression denotes.
 use Rattle.std.proofs.Common.{◌≡◌, ℕ, ◌≤◌, true, ◌↔◌, List, [], ◌∷◌, ◌++◌, sym, refl, ap, ◌∙◌, subst, inl, inr, arith, lit≤}
-use Rattle.std.specs.List.{AllByRecursion as All}
+use Rattle.std.specs.List.{AllByRecursion}
 use Rattle.states.specs.Sets.{has_rule}
 use Rattle.books.specs.Texts.{meets}
 use Rattle.expressions.specs.Expression.{Concatenation, Denotes, OneOf, Repetition}
@@ -10,7 +10,7 @@ use Rattle.numbers.specs.Number.{Digits, Fraction, Number, UnitMm, digit_express
 use Rattle.numbers.proofs.Texts.{reads_numbers}
 
 abbrev AllDigits : List ℕ → Type 0
-AllDigits = All (λ c. (48 ≤ c) × (c ≤ 57))
+AllDigits = AllByRecursion (λ c. (48 ≤ c) × (c ≤ 57))
 
 repeated_digits : (w : List ℕ) → Repetition (OneOf 48 57) w → AllDigits w
 repeated_digits w (none e) = subst AllDigits (sym e) tt

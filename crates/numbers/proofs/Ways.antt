@@ -1,6 +1,6 @@
 -- The texts that lead from a position to the end, and that the book reads those of its first position. Assumes nothing.
 use Rattle.std.proofs.Common.{◌≡◌, ℕ, zero, suc, ◌<◌, Bool, true, false, ◌&&◌, eqb, List, [], ◌∷◌, Decides, sym, refl, ◌∙◌, subst, inl, inr, arith}
-use Rattle.std.specs.List.{AllByRecursion as All}
+use Rattle.std.specs.List.{AllByRecursion}
 use Rattle.std.proofs.lemmas.Bool.{both_ways, and_parts, and_from, or_cases, eqb-true}
 use Rattle.std.proofs.lemmas.Bool.Decides.{same_from_decides}
 use Rattle.states.specs.declared.state.State.{State}
@@ -28,7 +28,7 @@ takes_below (suc (suc (suc (suc zero)))) c e = omega arith
 takes_below (suc (suc (suc (suc (suc p))))) c e = absurd (both_ways false refl e)
 
 -- what holds of each of the list holds of any of them
-one_of : (P : ℕ → Type 0) (ns : List ℕ) (q : ℕ) → among ns q ≡ true → All P ns → P q
+one_of : (P : ℕ → Type 0) (ns : List ℕ) (q : ℕ) → among ns q ≡ true → AllByRecursion P ns → P q
 one_of P [] q e all = absurd (both_ways false refl e)
 one_of P (n ∷ ns) q e all = elim (or_cases (eqb q n) (among ns q) e) [
   | inl i ↦ subst P (sym (eqb-true q n i)) all.0
@@ -48,7 +48,7 @@ module _ (p c : ℕ) (t : List ℕ) where
       (w.0, h.0, f.0, f.1)
 
   -- what holds whichever position follows
-  pub reads_ways : (P : Type 0) → reads p (c ∷ t) ≡ true → (takes p c ≡ true → All (λ q. reads q t ≡ true → P) (followers p)) → P
+  pub reads_ways : (P : Type 0) → reads p (c ∷ t) ≡ true → (takes p c ≡ true → AllByRecursion (λ q. reads q t ≡ true → P) (followers p)) → P
   reads_ways P e ways = let w = reads_on e in one_of (λ q. reads q t ≡ true → P) (followers p) w.0 w.2 (ways w.1) w.3
 
 -- ---- whole texts

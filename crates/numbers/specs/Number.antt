@@ -1,6 +1,6 @@
 -- The texts that are numbers, and the number book as positions and states.
 use Rattle.std.specs.Prelude.{◌≡◌, ℕ, ◌≤◌, Bool, false, cond, ◌&&◌, ◌||◌, ◌⊎◌, List, [], ◌∷◌, ◌++◌, Some, None, ◌==◌, ◌≢◌, nat_eq, nat_le, nat_lt, slice_index_or}
-use Rattle.std.specs.List.{AllByRecursion as All}
+use Rattle.std.specs.List.{AllByRecursion}
 use Rattle.states.specs.declared.state.State.{State}
 use Rattle.states.specs.Words.{some}
 use Rattle.states.specs.Sets.{has, set_of, rules_of}
@@ -12,7 +12,7 @@ use Rattle.expressions.specs.Expression.Expr.{symbol, join, plus, optional}
 
 -- one or more digits, whose codes are 48 to 57
 abbrev pub Digits : List ℕ → Type 0
-Digits t = (t ≢ []) × All (λ c. (48 ≤ c) × (c ≤ 57)) t
+Digits t = (t ≢ []) × AllByRecursion (λ c. (48 ≤ c) × (c ≤ 57)) t
 
 -- nothing, or '.' and digits
 abbrev pub Fraction : List ℕ → Type 0

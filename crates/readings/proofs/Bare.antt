@@ -1,6 +1,6 @@
 -- Over a sound reader a reading goes where the book says, and the reader stays sound.
 use Rattle.std.proofs.Common.{◌≡◌, ℕ, Bool, true, false, cond, ◌&&◌, eqb, List, [], ◌∷◌, Some, unwrap_or, sym, refl, ap, ◌∙◌, subst}
-use Rattle.std.specs.List.{AllByRecursion as All}
+use Rattle.std.specs.List.{AllByRecursion}
 use Rattle.std.proofs.ByRecursion.{All-push}
 use Rattle.std.proofs.lemmas.Bool.{and_parts, eqb-true, cond_both}
 use Rattle.states.specs.declared.state.State.{State}
@@ -17,7 +17,7 @@ use Rattle.readings.proofs.Runs.{works_meaning}
 
 -- ---- kept steps that are the book's
 
-found_right : (m : Meaning) (ks : List Step) (s : State) (c : ℕ) → All (Right m) ks → unwrap_or (found ks s c) (m.next s c) ≡ m.next s c
+found_right : (m : Meaning) (ks : List Step) (s : State) (c : ℕ) → AllByRecursion (Right m) ks → unwrap_or (found ks s c) (m.next s c) ≡ m.next s c
 unfolding found
 found_right m [] s c a = refl
 found_right m (k ∷ ks) s c a = first (same k.state s && eqb k.code c) refl (found_right m ks s c a.1)
@@ -41,15 +41,15 @@ sound_goes v l a = λ i s c. at s c i
 -- ---- what is kept on the way
 
 -- the pairs that are met have live positions only
-pub met_within : (m : Meaning) → Lawful m → (s : State) (cs : List ℕ) → Within m s → All (λ (p : Pair). Within m p.0) (met m.next s cs)
+pub met_within : (m : Meaning) → Lawful m → (s : State) (cs : List ℕ) → Within m s → AllByRecursion (λ (p : Pair). Within m p.0) (met m.next s cs)
 met_within m l s [] w = tt
 met_within m l s (c ∷ cs) w =
-    cond_both (is_empty s) [] _ (All (λ (p : Pair). Within m p.0)) (λ e. tt) (λ e. (w, met_within m l (m.next s c) cs (l.steps s c)))
+    cond_both (is_empty s) [] _ (AllByRecursion (λ (p : Pair). Within m p.0)) (λ e. tt) (λ e. (w, met_within m l (m.next s c) cs (l.steps s c)))
 
-keep_right : (m : Meaning) (ks : List Step) (p : Pair) → Within m p.0 → All (Right m) ks → All (Right m) (keep ks (meant m p))
-keep_right m ks p w a = keep_both ks (meant m p) (All (Right m)) a (All-push (Right m) ks (meant m p) a (record { live = w; next = refl }))
+keep_right : (m : Meaning) (ks : List Step) (p : Pair) → Within m p.0 → AllByRecursion (Right m) ks → AllByRecursion (Right m) (keep ks (meant m p))
+keep_right m ks p w a = keep_both ks (meant m p) (AllByRecursion (Right m)) a (All-push (Right m) ks (meant m p) a (record { live = w; next = refl }))
 
-keep_all_right : (m : Meaning) (ks : List Step) (ps : List Pair) → All (λ (p : Pair). Within m p.0) ps → All (Right m) ks → All (Right m) (keep_all m ks ps)
+keep_all_right : (m : Meaning) (ks : List Step) (ps : List Pair) → AllByRecursion (λ (p : Pair). Within m p.0) ps → AllByRecursion (Right m) ks → AllByRecursion (Right m) (keep_all m ks ps)
 keep_all_right m ks [] w a = a
 keep_all_right m ks (p ∷ ps) w a = keep_all_right m (keep ks (meant m p)) ps w.1 (keep_right m ks p w.0 a)
 
@@ -57,8 +57,8 @@ keep_all_right m ks (p ∷ ps) w a = keep_all_right m (keep ks (meant m p)) ps w
 pub works_sound : {n : ℕ} {v w : View} (s : State) (cs : List ℕ) → Lawful v.book.meaning → Sound v → Within v.book.meaning s
     → Works (met v.book.meaning.next s cs) n v w → Sound w
 works_sound {n} {v} {w} s cs l a b x =
-    subst (λ (m : Meaning). All (Right m) w.kept) (sym (works_meaning x))
-    (subst (All (Right v.book.meaning)) (sym x.kept)
+    subst (λ (m : Meaning). AllByRecursion (Right m) w.kept) (sym (works_meaning x))
+    (subst (AllByRecursion (Right v.book.meaning)) (sym x.kept)
     (keep_all_right v.book.meaning v.kept (met v.book.meaning.next s cs) (met_within v.book.meaning l s cs b) a))
 
 -- a reading of a sound reader, from live positions, goes as the bare reading does

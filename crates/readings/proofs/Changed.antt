@@ -1,6 +1,6 @@
 -- What an accepted change leaves of states with live positions only, and of the steps from them.
 use Rattle.std.proofs.Common.{◌≡◌, ℕ, false, not, List, [], ◌∷◌, is_some, Some, None, sym, ap, ◌∙◌}
-use Rattle.std.specs.List.{AllByRecursion as All}
+use Rattle.std.specs.List.{AllByRecursion}
 use Rattle.std.proofs.ByRecursion.{All-weaker}
 use Rattle.std.proofs.lemmas.Bool.{both_ways, not-true, cond_both}
 use Rattle.states.specs.declared.state.State.{State}
@@ -41,13 +41,13 @@ right_clear : {r : ℕ} {m n : Meaning} (x : Step) → Elsewhere r m n → Clear
 right_clear x els c g = record { live = c.within; next = g.next ∙ sym (els.nexts x.state x.code c.before c.after) }
 
 -- the kept steps stay the book's when a rule is added
-pub right_added : {r k : ℕ} {m n : Meaning} (ks : List Step) → Lawful m → Added r k m n → All (Right m) ks → All (Right n) ks
+pub right_added : {r k : ℕ} {m n : Meaning} (ks : List Step) → Lawful m → Added r k m n → AllByRecursion (Right m) ks → AllByRecursion (Right n) ks
 right_added {r} {k} {m} {n} ks l a = All-weaker (Right m) (Right n) (λ x g. right_clear x a.elsewhere (clear_added x.state l a g.live) g) ks
 
 -- and those that are left when a rule is deleted
-pub right_deleted : {r : ℕ} {m n : Meaning} (ks : List Step) → Lawful n → Deleted r m n → All (Right m) ks → All (Right n) (without m r ks)
+pub right_deleted : {r : ℕ} {m n : Meaning} (ks : List Step) → Lawful n → Deleted r m n → AllByRecursion (Right m) ks → AllByRecursion (Right n) (without m r ks)
 right_deleted [] l d a = tt
 right_deleted {r} {m} {n} (x ∷ ks) l d a =
     let more = right_deleted ks l d a.1 in
-    cond_both (not (touches m r x.state)) _ _ (All (Right n))
+    cond_both (not (touches m r x.state)) _ _ (AllByRecursion (Right n))
     (λ e. (right_clear x d.elsewhere (clear_deleted x.state l d a.0.live (not-true _ e)) a.0, more)) (λ e. more)

@@ -1,6 +1,6 @@
 -- A history of a book that is given a second rule, which is taken again.
 use Rattle.std.proofs.Common.{◌≡◌, ℕ, ◌+◌, ◌≤◌, Bool, true, false, cond, ◌&&◌, eqb, ltb, ◌↔◌, List, [], ◌∷◌, ◌++◌, length, is_some, Some, None, sym, refl, ap, ◌∙◌, subst, subst₂, inl, inr, arith, lit<, lit≤}
-use Rattle.std.specs.List.{AllByRecursion as All}
+use Rattle.std.specs.List.{AllByRecursion}
 use Rattle.std.proofs.lemmas.Bool.{ltb-true, lt-ltb, le-ltb, and_parts, and_right, both_ways, cases_Bool, cases_eq, cases_lt, eq-eqb, cond-true, cond-false}
 use Rattle.states.specs.declared.state.State.{State}
 use Rattle.states.specs.Words.{some, digits_of}
@@ -361,9 +361,9 @@ stayed r h = (none, (none, (none, (first, tt))))
 
 steps_kept : StepsKept [] (reads 1 1)
 unfolding book same set_of digits_of
-steps_kept = subst (λ (ps : List Pair). All (λ q. among (keep_pairs [] ps) q ≡ true) ps) (sym (met_letters 1 start₁)) here
+steps_kept = subst (λ (ps : List Pair). AllByRecursion (λ q. among (keep_pairs [] ps) q ≡ true) ps) (sym (met_letters 1 start₁)) here
   where
-    here : All (λ q. among (keep_pairs [] (at_start 1 ∷ at_start 1 ∷ [])) q ≡ true) (at_start 1 ∷ at_start 1 ∷ [])
+    here : AllByRecursion (λ q. among (keep_pairs [] (at_start 1 ∷ at_start 1 ∷ [])) q ≡ true) (at_start 1 ∷ at_start 1 ∷ [])
     here = (refl, (refl, tt))
 
 -- one pair was kept, and one more is met

@@ -1,6 +1,6 @@
 -- The pairs that kept steps are from, and what more of them changes. Assumes nothing.
 use Rattle.std.proofs.Common.{◌≡◌, ℕ, suc, ◌+◌, ◌≤◌, Bool, true, false, cond, not, ◌&&◌, ◌||◌, eqb, ltb, leb, List, [], ◌∷◌, ◌++◌, map, length, is_some, Some, filter, sym, refl, ap, ◌∙◌, subst, inl, inr, append_assoc, append-nil, arith, length-append}
-use Rattle.std.specs.List.{AllByRecursion as All}
+use Rattle.std.specs.List.{AllByRecursion}
 use Rattle.std.proofs.lemmas.List.{map_push, length-map}
 use Rattle.std.proofs.lemmas.Bool.{and_parts, or_cases, or_left, or_right, cond-true, cond-false, cond_both, cases_Bool, both_ways, not_from_false, lt-ltb, le-ltb, leb-true, leb-false}
 use Rattle.states.specs.Sets.{same}
@@ -93,7 +93,7 @@ among_without m r (q ∷ K) p h e = elim (or_cases (same q.0 p.0 && eqb q.1 p.1)
 -- ---- what is worked out
 
 -- nothing, where all is kept
-pub worked_none : (m : Meaning) (ks : List Step) (ps : List Pair) → All (λ p. among (pairs ks) p ≡ true) ps → worked m ks ps ≡ []
+pub worked_none : (m : Meaning) (ks : List Step) (ps : List Pair) → AllByRecursion (λ p. among (pairs ks) p ≡ true) ps → worked m ks ps ≡ []
 worked_none m ks [] a = refl
 worked_none m ks (p ∷ ps) a = cond-true (is_kept ks p) _ _ (kept_among ks p ∙ a.0) ∙ worked_none m ks ps a.1
 

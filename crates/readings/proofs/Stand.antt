@@ -1,6 +1,6 @@
 -- What every history of a new reader promises about its readings.
 use Rattle.std.proofs.Common.{◌≡◌, ℕ, ◌+◌, ◌≤◌, true, false, List, [], ◌∷◌, ◌++◌, length, Some, None, Option, sym, refl, ap, ◌∙◌, subst, ap₂, arith, length-append}
-use Rattle.std.specs.List.{AllByRecursion as All}
+use Rattle.std.specs.List.{AllByRecursion}
 use Rattle.std.proofs.lemmas.Bool.{cond-false}
 use Rattle.books.specs.Meaning.{Meaning, InForce, Lawful, Within}
 use Rattle.kept.specs.Steps.{most}
@@ -51,7 +51,7 @@ unchanged_deletes (delete r) t e = cond-false (is_changed t) (Some r) None e
 unchanged_deletes begin t e = refl
 unchanged_deletes (finish edition s) t e = refl
 
-stretch : (v : View) (mid post : List Entry) → Good v → History v (mid ++ post) → All (λ e. is_changed e.told ≡ false) mid
+stretch : (v : View) (mid post : List Entry) → Good v → History v (mid ++ post) → AllByRecursion (λ e. is_changed e.told ≡ false) mid
     → length (pairs v.kept) + length (distinct_from (pairs v.kept) (all_met mid)) ≤ most
     → counts mid ≡ length (distinct_from (pairs v.kept) (all_met mid))
 stretch v [] post g h u l = refl
@@ -81,7 +81,7 @@ record Along (m : Meaning) (P : List Pair) (rest : List Entry) : Type 0 where
   history : History reader rest
   good : Good reader
   follows : Follows m reader.book.meaning
-  stays : All (λ p. among (pairs reader.kept) p ≡ true) P
+  stays : AllByRecursion (λ p. among (pairs reader.kept) p ≡ true) P
 
 -- a call that deletes no rule of m drops no pair of live positions of m
 stays_turn : {m n n' : Meaning} {d : Option ℕ} (K : List Pair) (p : Pair) → Lawful m → Follows m n → Turn n n' d
@@ -92,13 +92,13 @@ stays_turn {m} {n} K p law f (shrunk r b o) stay w a =
     subst (λ (q : Option ℕ). among (drop_by n q K) p ≡ true) (sym o)
     (among_without n r K p (free_of law f r p.0 (λ h. stay r h o) w) a)
 
-all_both : {X : Type 0} (P Q R : X → Type 0) → ((x : X) → P x → Q x → R x) → (xs : List X) → All P xs → All Q xs → All R xs
+all_both : {X : Type 0} (P Q R : X → Type 0) → ((x : X) → P x → Q x → R x) → (xs : List X) → AllByRecursion P xs → AllByRecursion Q xs → AllByRecursion R xs
 all_both P Q R f [] a b = tt
 all_both P Q R f (x ∷ xs) a b = (f x a.0 b.0, all_both P Q R f xs a.1 b.1)
 
 along : (m : Meaning) (P : List Pair) (v : View) (mid rest : List Entry) → Lawful m → Good v → Follows m v.book.meaning
-    → All (λ p. Within m p.0) P → All (λ p. among (pairs v.kept) p ≡ true) P
-    → ((r : ℕ) → InForce m r → All (λ d. deleted d ≡ Some r → ⊥) mid)
+    → AllByRecursion (λ p. Within m p.0) P → AllByRecursion (λ p. among (pairs v.kept) p ≡ true) P
+    → ((r : ℕ) → InForce m r → AllByRecursion (λ d. deleted d ≡ Some r → ⊥) mid)
     → History v (mid ++ rest) → Along m P rest
 along m P v [] rest law g f w a n h = record { reader = v; history = h; good = g; follows = f; stays = a }
 along m P v (e ∷ mid) rest law g f w a n h =
@@ -107,7 +107,7 @@ along m P v (e ∷ mid) rest law g f w a n h =
     along m P h.0 mid rest law t.good
     (follows_turn law f' (subst Lawful (sym h.1) g.lawful) t.good.lawful t.turn (λ r k. (n r k).0))
     w
-    (subst (λ (K : List Pair). All (λ p. among K p ≡ true) P) (sym t.table)
+    (subst (λ (K : List Pair). AllByRecursion (λ p. among K p ≡ true) P) (sym t.table)
     (all_both (λ p. Within m p.0) (λ p. among (pairs v.kept) p ≡ true) _
     (λ p b c. stays_turn (keep_pairs (pairs v.kept) (met_in e)) p law f' t.turn (λ r k. (n r k).0) b (among_keep_pairs (pairs v.kept) (met_in e) p c)) P w a))
     (λ r k. (n r k).1) h.3
@@ -125,14 +125,14 @@ none_some o x e f = let z : ◌≡◌ {A = ℕ} 0 1 = cc in omega arith
 -- after calls that left its rules and its steps
 repeated : (v : View) (mid post : List Entry) (e e' : Entry) (x x' : Reading) → Good v → (h : History v (e ∷ (mid ++ (e' ∷ post))))
     → reading e ≡ Some x → reading e' ≡ Some x' → any_edition x ≡ any_edition x' → Stayed e mid → NoOthers e e'
-    → All (λ p. among (pairs h.0.kept) p ≡ true) (met_in e) → e'.count ≡ 0
+    → AllByRecursion (λ p. among (pairs h.0.kept) p ≡ true) (met_in e) → e'.count ≡ 0
 repeated v mid post e e' x x' g h q q' same stayed others kept =
     let m = e.book in
     let f = first v e (mid ++ (e' ∷ post)) g h in
     let law : Lawful m = subst Lawful (sym h.1) g.lawful in
     let live : Within m (from m x) = (subst (Plain m e.told) q f.plain).1 in
     let here : met_in e ≡ met m.next (from m x) (codes x) = ap (met_by m) q in
-    let within = subst (All (λ (p : Pair). Within m p.0)) (sym here) (met_within m law (from m x) (codes x) live) in
+    let within = subst (AllByRecursion (λ (p : Pair). Within m p.0)) (sym here) (met_within m law (from m x) (codes x) live) in
     let follows = follows_turn law (follows_self m) law f.good.lawful f.turn
     (λ r k d. none_some (deleted e) r (reading_deletes e.call e.told x q) d) in
     let a = along m (met_in e) h.0 mid (e' ∷ post) law f.good follows within kept stayed h.3 in
@@ -158,7 +158,7 @@ stands v new law es h = record {
       let K : pairs a.history.0.kept ≡ kept_from [] (pre ++ e ∷ []) =
       f.table ∙ ap (λ (t : List Pair). kept_from t (e ∷ [])) (a.table ∙ ap (λ (t : List Pair). kept_from t pre) none) ∙ sym (kept_append [] pre (e ∷ [])) in
       repeated a.reader mid post e e' x x' a.good a.history r r' same stayed others
-      (subst (λ (t : List Pair). All (λ p. among t p ≡ true) (met_in e)) (sym K) kept);
+      (subst (λ (t : List Pair). AllByRecursion (λ p. among t p ≡ true) (met_in e)) (sym K) kept);
   once = λ pre mid post q u l.
       let a = after v pre (mid ++ post) good (subst (History v) q h) in
       let K : pairs a.reader.kept ≡ kept_from [] pre = a.table ∙ ap (λ (t : List Pair). kept_from t pre) none in
@@ -167,7 +167,7 @@ stands v new law es h = record {
 }
   where
     good : Good v
-    good = record { lawful = law; sound = subst (All (Right v.book.meaning)) (sym new) tt }
+    good = record { lawful = law; sound = subst (AllByRecursion (Right v.book.meaning)) (sym new) tt }
 
     none : pairs v.kept ≡ []
     none = ap pairs new

@@ -1,6 +1,6 @@
 -- What one call of a sound reader does to the pairs kept and to the book's meaning, told from the call.
 use Rattle.std.proofs.Common.{◌≡◌, ℕ, true, false, List, length, Some, None, Option, sym, refl, ap, ◌∙◌, subst, inl, inr}
-use Rattle.std.specs.List.{AllByRecursion as All}
+use Rattle.std.specs.List.{AllByRecursion}
 use Rattle.std.proofs.lemmas.Bool.{cond-true, cond-false}
 use Rattle.states.specs.declared.state.State.{State}
 use Rattle.books.specs.Meaning.{Meaning, Lawful, Within}
@@ -93,7 +93,7 @@ read_traces {t} {n} {v} {w} (feed e s c) g (inr r) =
 -- D is the rule of the deletion by what is told; d is that of the change if it is accepted
 changes_traces : {because : BookFault → Type 0} {change : Meaning → Meaning → Type 0} {steps : List Step} {t : Told} {n : ℕ} {v w : View} (D d : Option ℕ)
     → Good v → (is_changed t ≡ false → D ≡ None) → (is_changed t ≡ true → D ≡ d)
-    → (Lawful w.book.meaning → change v.book.meaning w.book.meaning → All (Right w.book.meaning) steps)
+    → (Lawful w.book.meaning → change v.book.meaning w.book.meaning → AllByRecursion (Right w.book.meaning) steps)
     → pairs steps ≡ drop_by v.book.meaning d (pairs v.kept)
     → (change v.book.meaning w.book.meaning → Turn v.book.meaning w.book.meaning d)
     → ChangesOr because change steps t n v w → Traces v v.book.meaning None D t n w
@@ -104,7 +104,7 @@ changes_traces {t = t} {n} {v} {w} D d g none some right table turn (inr (inl (r
 changes_traces {t = t} {n} {v} {w} D d g none some right table turn (inr (inr c)) =
     subst (λ (q : Option ℕ). Traces v v.book.meaning None q t n w) (sym (some (ap is_changed c.tells)))
     (record {
-      good = record { lawful = c.lawful; sound = subst (All (Right w.book.meaning)) (sym c.kept) (right c.lawful c.book.meaning) };
+      good = record { lawful = c.lawful; sound = subst (AllByRecursion (Right w.book.meaning)) (sym c.kept) (right c.lawful c.book.meaning) };
       plain = tt;
       count = c.count;
       table = ap pairs c.kept ∙ table;

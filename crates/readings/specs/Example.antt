@@ -1,6 +1,6 @@
 -- What histories promise is not empty: there is a history that meets every premise.
 use Rattle.std.specs.Prelude.{◌≡◌, ℕ, ◌+◌, ◌≤◌, true, false, [], ◌∷◌, length, Some}
-use Rattle.std.specs.List.{AllByRecursion as All}
+use Rattle.std.specs.List.{AllByRecursion}
 use Rattle.states.specs.declared.rules.Rules.{Rules}
 use Rattle.states.specs.Sets.{no_rule}
 use Rattle.books.specs.Meaning.{Lawful}
@@ -12,7 +12,7 @@ use Rattle.readings.specs.Entries.{Entry, reading, is_changed, counts, kept_afte
 use Rattle.readings.specs.Histories.{History, Stayed, NoOthers, StepsKept}
 
 -- A text that meets a rule is read, a second rule is added, the text is read twice, the second rule is deleted, and the text is
--- read again. All together the readings work out this many steps.
+-- read again. AllByRecursion together the readings work out this many steps.
 pub record Repeated (steps : ℕ) : Type 0 where
   pub reader : View
   pub new : reader.kept ≡ []
@@ -25,8 +25,8 @@ pub record Repeated (steps : ℕ) : Type 0 where
   pub last : Entry
   pub history : History reader (first ∷ added ∷ second ∷ third ∷ removed ∷ last ∷ [])
   pub text : Reading
-  pub readings : All (λ e. reading e ≡ Some text) (first ∷ second ∷ third ∷ last ∷ [])
-  pub accepted : All (λ e. is_changed e.told ≡ true) (added ∷ removed ∷ [])
+  pub readings : AllByRecursion (λ e. reading e ≡ Some text) (first ∷ second ∷ third ∷ last ∷ [])
+  pub accepted : AllByRecursion (λ e. is_changed e.told ≡ true) (added ∷ removed ∷ [])
   pub rules : Rules
   pub meets : (first.told ≡ ended rules) × (no_rule rules ≡ false)
   -- the premises of `again`, for the first reading and the last
@@ -34,7 +34,7 @@ pub record Repeated (steps : ℕ) : Type 0 where
   pub others : NoOthers first last
   pub steps_kept : StepsKept [] first
   -- the premises of `once`, for the two readings between the changes
-  pub unchanged : All (λ e. is_changed e.told ≡ false) (second ∷ third ∷ [])
+  pub unchanged : AllByRecursion (λ e. is_changed e.told ≡ false) (second ∷ third ∷ [])
   pub room : length (kept_after (first ∷ added ∷ [])) + length (unkept (first ∷ added ∷ []) (second ∷ third ∷ [])) ≤ most
   pub each : (first.count ≡ 1) × (second.count ≡ 1) × (third.count ≡ 0) × (last.count ≡ 0)
   pub together : counts (first ∷ added ∷ second ∷ third ∷ removed ∷ last ∷ []) ≡ steps

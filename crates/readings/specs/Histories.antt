@@ -1,6 +1,6 @@
 -- Histories: any calls on one new reader, one after the other, and what every history promises about its readings.
 use Rattle.std.specs.Prelude.{◌≡◌, ℕ, ◌+◌, ◌≤◌, true, false, List, [], ◌∷◌, ◌++◌, length, Some, ◌≢◌}
-use Rattle.std.specs.List.{AllByRecursion as All}
+use Rattle.std.specs.List.{AllByRecursion}
 use Rattle.books.specs.Meaning.{InForce}
 use Rattle.kept.specs.Steps.{most}
 use Rattle.readings.specs.Views.{View}
@@ -15,7 +15,7 @@ History v (e ∷ es) = (w : View) × (e.book ≡ v.book.meaning) × Does e.call 
 
 -- no deletion of a rule in force at e was accepted in mid
 abbrev pub Stayed : Entry → List Entry → Type 0
-Stayed e mid = (r : ℕ) → InForce e.book r → All (λ d. deleted d ≢ Some r) mid
+Stayed e mid = (r : ℕ) → InForce e.book r → AllByRecursion (λ d. deleted d ≢ Some r) mid
 
 -- no rule is in force at e' that was not at e
 abbrev pub NoOthers : Entry → Entry → Type 0
@@ -23,7 +23,7 @@ NoOthers e e' = (r : ℕ) → InForce e'.book r → InForce e.book r
 
 -- each pair that e met is kept at its end
 abbrev pub StepsKept : List Entry → Entry → Type 0
-StepsKept pre e = All (λ p. among (kept_after (pre ++ e ∷ [])) p ≡ true) (met_in e)
+StepsKept pre e = AllByRecursion (λ p. among (kept_after (pre ++ e ∷ [])) p ≡ true) (met_in e)
 
 -- What holds of the readings in the history es of a new reader.
 pub record Stands (es : List Entry) : Type 0 where
@@ -42,6 +42,6 @@ pub record Stands (es : List Entry) : Type 0 where
   -- and that was not kept before, if the table holds them all.
   pub once : (pre mid post : List Entry)
       → es ≡ pre ++ (mid ++ post)
-      → All (λ e. is_changed e.told ≡ false) mid
+      → AllByRecursion (λ e. is_changed e.told ≡ false) mid
       → length (kept_after pre) + length (unkept pre mid) ≤ most
       → counts mid ≡ length (unkept pre mid)

@@ -1,6 +1,6 @@
 -- A reader as its contracts show it.
 use Rattle.std.specs.Prelude.{◌≡◌, ℕ, List, []}
-use Rattle.std.specs.List.{AllByRecursion as All}
+use Rattle.std.specs.List.{AllByRecursion}
 use Rattle.books.specs.Meaning.{Meaning, Model, Within}
 use Rattle.kept.specs.Steps.{Step}
 
@@ -23,4 +23,4 @@ pub record Right (m : Meaning) (x : Step) : Type 0 where
 
 -- every kept step is the book's
 abbrev pub Sound : View → Type 0
-Sound v = All (Right v.book.meaning) v.kept
+Sound v = AllByRecursion (Right v.book.meaning) v.kept

@@ -1,7 +1,7 @@
 -- The words of commands and books are of small letters, and no two commands have the same word.
 use Rattle.std.proofs.Common.{◌≡◌, ℕ, ◌<◌, Bool, true, cond, ◌&&◌, List, [], ◌∷◌, codes, IsUtf8, Decides, sym, refl, ap, ◌∙◌, arith}
 use Rattle.std.specs.Int.{is_in_range, IsInRange}
-use Rattle.std.specs.List.{AllByRecursion as All}
+use Rattle.std.specs.List.{AllByRecursion}
 use Rattle.std.specs.Str.{bytes_eq}
 use Rattle.std.proofs.ByRecursion.{IsAscii-from_all, All-weaker, Decides-by_and}
 use Rattle.std.proofs.lemmas.Str.{IsUtf8-from_ascii}
@@ -15,7 +15,7 @@ abbrev letters : List ℕ → Bool
 letters [] = true
 letters (b ∷ bs) = is_in_range 97 122 b && letters bs
 
-small : (l : List ℕ) → letters l ≡ true → All (IsInRange 97 122) l
+small : (l : List ℕ) → letters l ≡ true → AllByRecursion (IsInRange 97 122) l
 small l = (Decides-by_and (is_in_range 97 122) (IsInRange 97 122) letters each refl (λ _ _. refl) l).0
   where
     each : (b : ℕ) → Decides (is_in_range 97 122 b) (IsInRange 97 122 b)
