@@ -12,7 +12,7 @@ use Rattle.readings.specs.Entries.{Entry, reading, is_changed, counts, kept_afte
 use Rattle.readings.specs.Histories.{History, Stayed, NoOthers, StepsKept}
 
 -- A text that meets a rule is read, a second rule is added, the text is read twice, the second rule is deleted, and the text is
--- read again. AllByRecursion together the readings work out this many steps.
+-- read again. All together the readings work out this many steps.
 pub record Repeated (steps : ℕ) : Type 0 where
   pub reader : View
   pub new : reader.kept ≡ []
