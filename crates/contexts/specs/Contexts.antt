@@ -10,5 +10,5 @@ use Rattle.contexts.specs.declared.context.Context.{Context}
 abbrev pub marker_of : {S : Type 0} → (S → ℕ) → Track S → Marker
 marker_of code t = record { text = map code (vec_items t.text); place = t.place; from = t.from; to = t.to }
 
-abbrev pub use_of : {B S : Type 0} → (B → Model) → (S → ℕ) → Context B S → Use
+abbrev pub use_of : {B S : Type 0} {g : _} {h : _} → (B → Model) → (S → ℕ) → Context B S g h → Use
 use_of model code c = record { reader = view model c.reader; cursor = option_map (marker_of code) c.cursor; walk = c.walk }

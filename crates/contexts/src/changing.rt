@@ -8,7 +8,7 @@ ghost use Rattle.contexts.specs.Contexts.{use_of};
 
 use crate::context::Context;
 use books::ChangingBook;
-use std::fmt;
+use std::alloc::AllocError;
 
 impl<B: ChangingBook> Context<B> {
     // Adds a rule by its bytes; `word` is the word of the command.
@@ -19,11 +19,11 @@ impl<B: ChangingBook> Context<B> {
         kind: u32,
         bytes: &[u8],
         out: &mut String,
-    ) -> fmt::Result
+    ) -> Result<(), AllocError>
         ensures { OnOk result (Answers
             (Changes word.now rule (adding rule kind bytes.now)
             (change_refusal self.old.reader.edition (B.ChangingBook.refusal (B.Book.model self.old.reader.book).meaning rule kind bytes.now))
-            (use_of B.Book.model Symbol-as-Symbol.code self.old) (use_of B.Book.model Symbol-as-Symbol.code self.new)) (string_bytes out.old) (string_bytes out.new)) }
+            (use_of B.Book.model B.Symbol.Symbol.code self.old) (use_of B.Book.model B.Symbol.Symbol.code self.new)) (string_bytes out.old) (string_bytes out.new)) }
     {
         match self.reader.add(rule, kind, bytes) {
             Ok(edition) => answers::changed(out, word, rule, edition),
@@ -32,11 +32,11 @@ impl<B: ChangingBook> Context<B> {
     }
 
     // Deletes a rule.
-    pub fn delete(&mut self, rule: u32, out: &mut String) -> fmt::Result
+    pub fn delete(&mut self, rule: u32, out: &mut String) -> Result<(), AllocError>
         ensures { OnOk result (Answers
             (Changes (codes "delete") rule (deleting rule)
             (change_refusal self.old.reader.edition (delete_refusal (B.Book.model self.old.reader.book).meaning rule))
-            (use_of B.Book.model Symbol-as-Symbol.code self.old) (use_of B.Book.model Symbol-as-Symbol.code self.new)) (string_bytes out.old) (string_bytes out.new)) }
+            (use_of B.Book.model B.Symbol.Symbol.code self.old) (use_of B.Book.model B.Symbol.Symbol.code self.new)) (string_bytes out.old) (string_bytes out.new)) }
     {
         match self.reader.delete(rule) {
             Ok(edition) => answers::changed(out, "delete", rule, edition),

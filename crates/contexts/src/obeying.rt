@@ -12,8 +12,8 @@ use lines::Order;
 impl<B: Noted> Context<B> {
     pub fn obey(&mut self, order: Order, out: &mut String) -> Result<(), Fault>
         ensures { MatchResult result
-            (λ _. Answers (Obeys order (use_of B.Book.model Symbol-as-Symbol.code self.old) (use_of B.Book.model Symbol-as-Symbol.code self.new)) (string_bytes out.old) (string_bytes out.new))
-            (λ f. Wants (wanting order (use_of B.Book.model Symbol-as-Symbol.code self.old)) f self.old self.new (string_bytes out.old) (string_bytes out.new)) }
+            (λ _. Answers (Obeys order (use_of B.Book.model B.Symbol.Symbol.code self.old) (use_of B.Book.model B.Symbol.Symbol.code self.new)) (string_bytes out.old) (string_bytes out.new))
+            (λ f. Wants (wanting order (use_of B.Book.model B.Symbol.Symbol.code self.old)) f self.old self.new (string_bytes out.old) (string_bytes out.new)) }
     {
         match order {
             Order::Token => self.token(out),

@@ -14,12 +14,12 @@ use crate::fault::Fault;
 use books::{Book, Refusal};
 use lines::{Expected, Order};
 use reader::{Cursor, Reader, Token};
-use std::fmt;
+use std::alloc::AllocError;
 
 impl<B: Book> Context<B> {
     // Reads a whole text.
-    pub(crate) fn read(&mut self, text: &[B::Symbol], out: &mut String) -> fmt::Result
-        ensures { OnOk result (Answers (Reads (map B.Symbol.Symbol.code text.now) (use_of model B.Symbol.Symbol.code self.old) (use_of model B.Symbol.Symbol.code self.new)) (string_bytes out.old) (string_bytes out.new)) }
+    pub(crate) fn read(&mut self, text: &[B::Symbol], out: &mut String) -> Result<(), AllocError>
+        ensures { OnOk result (Answers (Reads (map B.Symbol.Symbol.code text.now) (use_of B.Book.model B.Symbol.Symbol.code self.old) (use_of B.Book.model B.Symbol.Symbol.code self.new)) (string_bytes out.old) (string_bytes out.new)) }
     {
         let answer = self.reader.read(text);
         answers::read(out, self.reader.book(), answer.rules, answer.count)
@@ -31,8 +31,8 @@ impl<B: Book> Context<B> {
         text: Vec<B::Symbol>,
         place: usize,
         out: &mut String,
-    ) -> fmt::Result
-        ensures { OnOk result (Answers (Places place (map B.Symbol.Symbol.code text.items) (use_of model B.Symbol.Symbol.code self.old) (use_of model B.Symbol.Symbol.code self.new)) (string_bytes out.old) (string_bytes out.new)) }
+    ) -> Result<(), AllocError>
+        ensures { OnOk result (Answers (Places place (map B.Symbol.Symbol.code text.items) (use_of B.Book.model B.Symbol.Symbol.code self.old) (use_of B.Book.model B.Symbol.Symbol.code self.new)) (string_bytes out.old) (string_bytes out.new)) }
     {
         let length = text.len();
         let place = place.min(length);
@@ -48,8 +48,8 @@ impl<B: Book> Context<B> {
     // Reads the next token at the cursor.
     pub(crate) fn token(&mut self, out: &mut String) -> Result<(), Fault>
         ensures { MatchResult result
-            (λ _. Answers (ReadsToken (use_of model B.Symbol.Symbol.code self.old) (use_of model B.Symbol.Symbol.code self.new)) (string_bytes out.old) (string_bytes out.new))
-            (λ f. Wants (wanting Order.Token (use_of model B.Symbol.Symbol.code self.old)) f self.old self.new (string_bytes out.old) (string_bytes out.new)) }
+            (λ _. Answers (ReadsToken (use_of B.Book.model B.Symbol.Symbol.code self.old) (use_of B.Book.model B.Symbol.Symbol.code self.new)) (string_bytes out.old) (string_bytes out.new))
+            (λ f. Wants (wanting Order.Token (use_of B.Book.model B.Symbol.Symbol.code self.old)) f self.old self.new (string_bytes out.old) (string_bytes out.new)) }
     {
         let Some(track) = &mut self.cursor else {
             return Err(Fault::Malformed(Expected::Cursor));
@@ -63,8 +63,8 @@ impl<B: Book> Context<B> {
     // Peeks at the next token at the cursor.
     pub(crate) fn peek(&mut self, out: &mut String) -> Result<(), Fault>
         ensures { MatchResult result
-            (λ _. Answers (PeeksToken (use_of model B.Symbol.Symbol.code self.old) (use_of model B.Symbol.Symbol.code self.new)) (string_bytes out.old) (string_bytes out.new))
-            (λ f. Wants (wanting Order.Peek (use_of model B.Symbol.Symbol.code self.old)) f self.old self.new (string_bytes out.old) (string_bytes out.new)) }
+            (λ _. Answers (PeeksToken (use_of B.Book.model B.Symbol.Symbol.code self.old) (use_of B.Book.model B.Symbol.Symbol.code self.new)) (string_bytes out.old) (string_bytes out.new))
+            (λ f. Wants (wanting Order.Peek (use_of B.Book.model B.Symbol.Symbol.code self.old)) f self.old self.new (string_bytes out.old) (string_bytes out.new)) }
     {
         let Some(track) = &self.cursor else {
             return Err(Fault::Malformed(Expected::Cursor));
@@ -81,7 +81,7 @@ fn read_token<B: Book>(
     reader: &mut Reader<B>,
     track: &mut Track<B::Symbol>,
 ) -> Result<Token, Refusal>
-    ensures does { Does (reads (tokenAt (map B.Symbol.Symbol.code track.old.text.items) track.old.place)) (token_told result) (token_count result) (view model reader.old) (view model reader.new) }
+    ensures does { Does (reads (tokenAt (map B.Symbol.Symbol.code track.old.text.items) track.old.place)) (token_told result) (token_count result) (view B.Book.model reader.old) (view B.Book.model reader.new) }
     ensures moves { marker_of B.Symbol.Symbol.code track.new ≡ moved (marker_of B.Symbol.Symbol.code track.old) result }
 {
     let mut cursor = Cursor::new(&track.text, track.place);
@@ -96,7 +96,7 @@ fn read_token<B: Book>(
 
 // Answers as reading the next token would.
 fn peek_token<B: Book>(reader: &mut Reader<B>, track: &Track<B::Symbol>) -> Result<Token, Refusal>
-    ensures { Does (reads (peek_at (map B.Symbol.Symbol.code track.now.text.items) track.now.place)) (token_told result) (token_count result) (view model reader.old) (view model reader.new) }
+    ensures { Does (reads (peek_at (map B.Symbol.Symbol.code track.now.text.items) track.now.place)) (token_told result) (token_count result) (view B.Book.model reader.old) (view B.Book.model reader.new) }
 {
     let mut cursor = Cursor::new(&track.text, track.place);
     reader.peek(&mut cursor)

@@ -22,8 +22,8 @@ impl<B: Book> Context<B> {
         out: &mut String,
     ) -> Result<(), Fault>
         ensures { MatchResult result
-            (λ _. Answers (Takes task (map B.Symbol.Symbol.code text.now) (use_of model B.Symbol.Symbol.code self.old) (use_of model B.Symbol.Symbol.code self.new)) (string_bytes out.old) (string_bytes out.new))
-            (λ f. Wants (wanting_for task (use_of model B.Symbol.Symbol.code self.old)) f self.old self.new (string_bytes out.old) (string_bytes out.new)) }
+            (λ _. Answers (Takes task (map B.Symbol.Symbol.code text.now) (use_of B.Book.model B.Symbol.Symbol.code self.old) (use_of B.Book.model B.Symbol.Symbol.code self.new)) (string_bytes out.old) (string_bytes out.new))
+            (λ f. Wants (wanting_for task (use_of B.Book.model B.Symbol.Symbol.code self.old)) f self.old self.new (string_bytes out.old) (string_bytes out.new)) }
     {
         match task {
             Task::Read => Ok(self.read(text, out)?),
@@ -40,8 +40,8 @@ impl<B: Book<Symbol = u8>> Context<B> {
     // Shows the last token of a cursor over bytes.
     pub fn last(&self, out: &mut String) -> Result<(), Fault>
         ensures { MatchResult result
-            (λ _. Answers (Shows (last_line shown_bytes) (use_of model (λ b. b) self.now) (use_of model (λ b. b) self.now)) (string_bytes out.old) (string_bytes out.new))
-            (λ f. Wants (wanting_cursor (use_of model (λ b. b) self.now)) f self.now self.now (string_bytes out.old) (string_bytes out.new)) }
+            (λ _. Answers (Shows (last_line shown_bytes) (use_of B.Book.model (λ b. b) self.now) (use_of B.Book.model (λ b. b) self.now)) (string_bytes out.old) (string_bytes out.new))
+            (λ f. Wants (wanting_cursor (use_of B.Book.model (λ b. b) self.now)) f self.now self.now (string_bytes out.old) (string_bytes out.new)) }
     {
         match &self.cursor {
             Some(track) => Ok(answers::last(out, track.from, track.part())?),
@@ -54,8 +54,8 @@ impl<B: Book<Symbol = Event>> Context<B> {
     // Shows the last token of a cursor over events.
     pub fn last_events(&self, out: &mut String) -> Result<(), Fault>
         ensures { MatchResult result
-            (λ _. Answers (Shows (last_line shown_events) (use_of model event-symbol.code self.now) (use_of model event-symbol.code self.now)) (string_bytes out.old) (string_bytes out.new))
-            (λ f. Wants (wanting_cursor (use_of model event-symbol.code self.now)) f self.now self.now (string_bytes out.old) (string_bytes out.new)) }
+            (λ _. Answers (Shows (last_line shown_events) (use_of B.Book.model event-symbol.code self.now) (use_of B.Book.model event-symbol.code self.now)) (string_bytes out.old) (string_bytes out.new))
+            (λ f. Wants (wanting_cursor (use_of B.Book.model event-symbol.code self.now)) f self.now self.now (string_bytes out.old) (string_bytes out.new)) }
     {
         match &self.cursor {
             Some(track) => Ok(answers::last_events(out, track.from, track.part())?),

@@ -8,12 +8,12 @@ use crate::context::Context;
 use crate::fault::Fault;
 use books::Book;
 use lines::{Expected, Order};
-use std::fmt;
+use std::alloc::AllocError;
 
 impl<B: Book> Context<B> {
     // Begins a walk in the place of the one in use.
-    pub(crate) fn begin(&mut self, out: &mut String) -> fmt::Result
-        ensures { OnOk result (Answers (Begins (use_of model Symbol-as-Symbol.code self.old) (use_of model Symbol-as-Symbol.code self.new)) (string_bytes out.old) (string_bytes out.new)) }
+    pub(crate) fn begin(&mut self, out: &mut String) -> Result<(), AllocError>
+        ensures { OnOk result (Answers (Begins (use_of B.Book.model B.Symbol.Symbol.code self.old) (use_of B.Book.model B.Symbol.Symbol.code self.new)) (string_bytes out.old) (string_bytes out.new)) }
     {
         let walk = self.reader.begin();
         let edition = self.reader.edition();
@@ -24,8 +24,8 @@ impl<B: Book> Context<B> {
     // Feeds the walk with symbols in turn, until the first refusal.
     pub(crate) fn feed(&mut self, text: &[B::Symbol], out: &mut String) -> Result<(), Fault>
         ensures { MatchResult result
-            (λ _. Answers (Feeds (map B.Symbol.Symbol.code text.now) (use_of model B.Symbol.Symbol.code self.old) (use_of model B.Symbol.Symbol.code self.new)) (string_bytes out.old) (string_bytes out.new))
-            (λ f. Wants (wanting_walk (use_of model B.Symbol.Symbol.code self.old)) f self.old self.new (string_bytes out.old) (string_bytes out.new)) }
+            (λ _. Answers (Feeds (map B.Symbol.Symbol.code text.now) (use_of B.Book.model B.Symbol.Symbol.code self.old) (use_of B.Book.model B.Symbol.Symbol.code self.new)) (string_bytes out.old) (string_bytes out.new))
+            (λ f. Wants (wanting_walk (use_of B.Book.model B.Symbol.Symbol.code self.old)) f self.old self.new (string_bytes out.old) (string_bytes out.new)) }
     {
         if self.walk.is_none() {
             return Err(Fault::Malformed(Expected::Walk));
@@ -41,8 +41,8 @@ impl<B: Book> Context<B> {
     // Feeds the walk with one symbol, and says whether it went on.
     fn feed_next(&mut self, symbol: B::Symbol, out: &mut String) -> Result<bool, Fault>
         ensures { MatchResult result
-            (λ on. Answers (FeedsNext (B.Symbol.Symbol.code symbol) on (use_of model B.Symbol.Symbol.code self.old) (use_of model B.Symbol.Symbol.code self.new)) (string_bytes out.old) (string_bytes out.new))
-            (λ f. Wants (wanting_walk (use_of model B.Symbol.Symbol.code self.old)) f self.old self.new (string_bytes out.old) (string_bytes out.new)) }
+            (λ on. Answers (FeedsNext (B.Symbol.Symbol.code symbol) on (use_of B.Book.model B.Symbol.Symbol.code self.old) (use_of B.Book.model B.Symbol.Symbol.code self.new)) (string_bytes out.old) (string_bytes out.new))
+            (λ f. Wants (wanting_walk (use_of B.Book.model B.Symbol.Symbol.code self.old)) f self.old self.new (string_bytes out.old) (string_bytes out.new)) }
     {
         let Some(walk) = self.walk.take() else {
             return Err(Fault::Malformed(Expected::Walk));
@@ -64,8 +64,8 @@ impl<B: Book> Context<B> {
     // Finishes the walk, which is gone then, unless it is refused.
     pub(crate) fn finish(&mut self, out: &mut String) -> Result<(), Fault>
         ensures { MatchResult result
-            (λ _. Answers (Finishes (use_of model B.Symbol.Symbol.code self.old) (use_of model B.Symbol.Symbol.code self.new)) (string_bytes out.old) (string_bytes out.new))
-            (λ f. Wants (wanting Order.Finish (use_of model B.Symbol.Symbol.code self.old)) f self.old self.new (string_bytes out.old) (string_bytes out.new)) }
+            (λ _. Answers (Finishes (use_of B.Book.model B.Symbol.Symbol.code self.old) (use_of B.Book.model B.Symbol.Symbol.code self.new)) (string_bytes out.old) (string_bytes out.new))
+            (λ f. Wants (wanting Order.Finish (use_of B.Book.model B.Symbol.Symbol.code self.old)) f self.old self.new (string_bytes out.old) (string_bytes out.new)) }
     {
         let Some(walk) = self.walk.take() else {
             return Err(Fault::Malformed(Expected::Walk));

@@ -1,7 +1,6 @@
-use Rattle.std.proofs.Common.{◌≡◌, ℕ, Some, Ok, Err, string_bytes, codes, sym, refl, ap, ◌∙◌}
+use Rattle.std.proofs.Common.{◌≡◌, ℕ, Some, string_bytes, codes, sym, refl, ap, ◌∙◌}
 use Rattle.states.specs.declared.state.State.{State}
 use Rattle.readings.specs.Readings.Told.{walking}
-use Rattle.reader.specs.View.{view}
 use Rattle.answers.specs.Texts.{numbered}
 use Rattle.answers.proofs.Appending.{answered}
 use Rattle.contexts.specs.Uses.{Begins}
@@ -14,7 +13,7 @@ same_edition d e s t h = cc
 pub returns : goal.returns
 returns g c =
     let model = g.B.Book.model in
-    let code = g.Symbol.Symbol.code in
+    let code = g.B.Symbol.Symbol.code in
     let u = use_of model code c.args.self.now in
     let h = c.begin-walk.ensures in
     let e = same_edition _ _ _ _ h.tells in

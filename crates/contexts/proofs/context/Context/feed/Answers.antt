@@ -1,5 +1,4 @@
-use Rattle.std.proofs.Common.{◌≡◌, ℕ, ◌+◌, ◌<◌, Bool, true, false, List, [], ◌∷◌, ◌++◌, map, length, get_or, take, drop, is_some, Some, None, Ok, Err, string_bytes, codes, Option, sym, refl, ap, ◌∙◌, subst, append_assoc, append-nil, arith, take-append-drop, MatchResult}
-use mathlib.Core.List.{map-append}
+use Rattle.std.proofs.Common.{◌≡◌, ℕ, ◌+◌, ◌<◌, true, false, List, [], ◌∷◌, ◌++◌, map, length, get_or, take, drop, is_some, Some, None, string_bytes, Option, sym, ap, ◌∙◌, subst, append_assoc, append-nil, arith, take-append-drop}
 use lib.ListN.{length-map}
 use Rattle.std.proofs.lemmas.List.{drop_more, get_or-map, take_all, take_more}
 use Rattle.std.proofs.lemmas.Bool.{cond-true}
@@ -48,28 +47,28 @@ broken u m (Malformed x) s t s' t' b a b' a' e h =
 broken u m NoMemory s t s' t' b a b' a' e h = tt
 
 pub loop-symbol-init : goal.loop-symbol-init
-loop-symbol-init g c = ((([], sym (append-nil (string_bytes c.args.out.now)), none)), c.if-is-none.ensures)
+loop-symbol-init g c = ((([], sym (append-nil (string_bytes c.args.out.now)), none)), c.if-is_none.ensures)
 
-pub returns-in_err-feed-next : goal.returns-in_err-feed-next
-returns-in_err-feed-next g c =
+pub returns-in_err-feed_next : goal.returns-in_err-feed_next
+returns-in_err-feed_next g c =
     let model = g.B.Book.model in
-    let code = g.Symbol.Symbol.code in
-    err_by _ _ c.in_err-feed-next.field-0.0 c.from-residual.result c.from-residual.ensures.1
-    (broken (use_of model code c.args.self.now) (use_of model code c.loop-symbol.self) c.in_err-feed-next.field-0.0 c.loop-symbol.self c.feed-next.new.self c.args.self.now c.feed-next.new.self
-    (string_bytes c.loop-symbol.out) (string_bytes c.feed-next.new.out) (string_bytes c.args.out.now) (string_bytes c.feed-next.new.out) c.loop-symbol.invariant.1 c.in_err-feed-next.ensures)
+    let code = g.B.Symbol.Symbol.code in
+    err_by _ _ c.in_err-feed_next.field-0.0 c.from_residual.result c.from_residual.ensures.1
+    (broken (use_of model code c.args.self.now) (use_of model code c.loop-symbol.self) c.in_err-feed_next.field-0.0 c.loop-symbol.self c.feed_next.new.self c.args.self.now c.feed_next.new.self
+    (string_bytes c.loop-symbol.out) (string_bytes c.feed_next.new.out) (string_bytes c.args.out.now) (string_bytes c.feed_next.new.out) c.loop-symbol.invariant.1 c.in_err-feed_next.ensures)
 
 pub loop-symbol-preserved : goal.loop-symbol-preserved
 loop-symbol-preserved g c =
     let model = g.B.Book.model in
-    let code = g.Symbol.Symbol.code in
+    let code = g.B.Symbol.Symbol.code in
     let xs = c.args.text.now in
     let i = c.loop-symbol.symbol-index in
     let m = use_of model code c.loop-symbol.self in
-    let w = use_of model code c.feed-next.new.self in
+    let w = use_of model code c.feed_next.new.self in
     let x = c.symbol-item.result in
     let l : i < length xs = omega arith in
-    let h = subst (λ on. Answers (FeedsNext (code x) on m w) (string_bytes c.loop-symbol.out) (string_bytes c.feed-next.new.out)) c.if-not-branch.false c.in_ok-feed-next.ensures in (
-      fed_more (use_of model code c.args.self.now) m w (string_bytes c.args.out.now) (string_bytes c.loop-symbol.out) (string_bytes c.feed-next.new.out) (map code xs) i (code x)
+    let h = subst (λ on. Answers (FeedsNext (code x) on m w) (string_bytes c.loop-symbol.out) (string_bytes c.feed_next.new.out)) c.if-not-branch.false c.in_ok-feed_next.ensures in (
+      fed_more (use_of model code c.args.self.now) m w (string_bytes c.args.out.now) (string_bytes c.loop-symbol.out) (string_bytes c.feed_next.new.out) (map code xs) i (code x)
           (subst (λ n. i < n) (sym (length-map xs code)) l) (code_at code xs i x l c.symbol-item.is) c.loop-symbol.invariant.0 h,
       ap (λ (v : Use). is_some v.walk) h.2.1.after,
     )
@@ -77,21 +76,21 @@ loop-symbol-preserved g c =
 pub returns-then-not-branch : goal.returns-then-not-branch
 returns-then-not-branch g c =
     let model = g.B.Book.model in
-    let code = g.Symbol.Symbol.code in
+    let code = g.B.Symbol.Symbol.code in
     let xs = c.args.text.now in
     let i = c.loop-symbol.symbol-index in
     let m = use_of model code c.loop-symbol.self in
-    let w = use_of model code c.feed-next.new.self in
+    let w = use_of model code c.feed_next.new.self in
     let x = c.symbol-item.result in
     let l : i < length xs = omega arith in
-    let h = subst (λ on. Answers (FeedsNext (code x) on m w) (string_bytes c.loop-symbol.out) (string_bytes c.feed-next.new.out)) c.if-not-branch.true c.in_ok-feed-next.ensures in
-    with_walk _ _ _ _ c.if-is-none.ensures (fed_until (use_of model code c.args.self.now) m w (string_bytes c.args.out.now) (string_bytes c.loop-symbol.out) (string_bytes c.feed-next.new.out) (map code xs) i (code x)
+    let h = subst (λ on. Answers (FeedsNext (code x) on m w) (string_bytes c.loop-symbol.out) (string_bytes c.feed_next.new.out)) c.if-not-branch.true c.in_ok-feed_next.ensures in
+    with_walk _ _ _ _ c.if-is_none.ensures (fed_until (use_of model code c.args.self.now) m w (string_bytes c.args.out.now) (string_bytes c.loop-symbol.out) (string_bytes c.feed_next.new.out) (map code xs) i (code x)
     (subst (λ n. i < n) (sym (length-map xs code)) l) (code_at code xs i x l c.symbol-item.is) c.loop-symbol.invariant.0 h)
 
 pub returns : goal.returns
 returns g c =
     let model = g.B.Book.model in
-    let code = g.Symbol.Symbol.code in
+    let code = g.B.Symbol.Symbol.code in
     let xs = map code c.args.text.now in
     let h = c.loop-symbol.invariant.0 in
-    (h.0, h.1, (c.if-is-none.ensures, all (subst (λ t. FeedsEach (use_of model code c.args.self.now) t (use_of model code c.loop-symbol.self) h.0) (take_all c.loop-symbol.symbol-index xs (rw length-map (omega arith))) h.2)))
+    (h.0, h.1, (c.if-is_none.ensures, all (subst (λ t. FeedsEach (use_of model code c.args.self.now) t (use_of model code c.loop-symbol.self) h.0) (take_all c.loop-symbol.symbol-index xs (rw length-map (omega arith))) h.2)))

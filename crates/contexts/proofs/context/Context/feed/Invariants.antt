@@ -5,6 +5,6 @@ use Rattle.contexts.proofs.context.Context.feed.Given as goal
 
 abbrev pub invariant-loop-symbol : goal.invariant-loop-symbol
 invariant-loop-symbol g l =
-    Answers (FeedsEach (use_of g.B.Book.model g.Symbol.Symbol.code l.initial.self) (take l.symbol-index (map g.Symbol.Symbol.code l.text)) (use_of g.B.Book.model g.Symbol.Symbol.code l.self))
+    Answers (FeedsEach (use_of g.B.Book.model g.B.Symbol.Symbol.code l.initial.self) (take l.symbol-index (map g.B.Symbol.Symbol.code l.text)) (use_of g.B.Book.model g.B.Symbol.Symbol.code l.self))
     (string_bytes l.initial.out) (string_bytes l.out)
     × (is_some l.self.walk ≡ true)

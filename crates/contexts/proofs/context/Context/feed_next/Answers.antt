@@ -1,4 +1,4 @@
-use Rattle.std.proofs.Common.{◌≡◌, Some, Ok, Err, string_bytes, codes, sym, refl, ap, ◌∙◌, subst}
+use Rattle.std.proofs.Common.{Some, Err, sym, refl, ap, ◌∙◌, subst}
 use Rattle.readings.specs.Calls.{Does}
 use Rattle.readings.specs.Calls.Call.{read}
 use Rattle.readings.specs.Readings.Reading.{feed}
@@ -8,10 +8,10 @@ use Rattle.answers.specs.Texts.{feed_line, refused_line}
 use Rattle.contexts.specs.Contexts.{use_of}
 use Rattle.contexts.proofs.context.Context.feed_next.Goals as goal
 
-pub returns-in_ok-fed : goal.returns-in_ok-fed
-returns-in_ok-fed g c = (
+pub returns-in_ok-fed-in-Ok : goal.returns-in_ok-fed-in-Ok
+returns-in_ok-fed-in-Ok g c = (
   feed_line c.in-Ok.fed.worked,
-  c.in_ok-fed.ensures,
+  c.in_ok-fed-in-Ok.ensures,
   (
     c.in-Ok.fed,
     record {
@@ -25,16 +25,16 @@ returns-in_ok-fed g c = (
   ),
 )
 
-pub returns-in_ok-refused : goal.returns-in_ok-refused
-returns-in_ok-refused g c =
+pub returns-in_ok-refused-in-Err : goal.returns-in_ok-refused-in-Err
+returns-in_ok-refused-in-Err g c =
     let model = g.B.Book.model in
-    let u = use_of model g.Symbol.Symbol.code c.args.self.now in
+    let u = use_of model g.B.Symbol.Symbol.code c.args.self.now in
     let walk = c.in-Some.walk in
     let back = c.in-Err.back in
     let h = c.in-Err.ensures in
     let here = sym c.in-Some.ensures.value in (
       refused_line c.tell.result,
-      c.in_ok-refused.ensures,
+      c.in_ok-refused-in-Err.ensures,
       (
         ap (λ x. record { reader = view model x; cursor = u.cursor; walk = Some back.walk }) h.back.1
             ∙ ap (λ k. record { reader = u.reader; cursor = u.cursor; walk = k }) (ap Some h.back.0 ∙ sym here),
@@ -44,7 +44,7 @@ returns-in_ok-refused g c =
           back = back;
           does =
               subst
-              (λ x. Does (read (feed walk.edition walk.state (g.Symbol.Symbol.code c.args.symbol))) (fed_told (Err back)) (fed_count (Err back)) u.reader (view model x))
+              (λ x. Does (read (feed walk.edition walk.state (g.B.Symbol.Symbol.code c.args.symbol))) (fed_told (Err back)) (fed_count (Err back)) u.reader (view model x))
               h.back.1 h.does;
           tells = ap refused_line c.tell.ensures;
         },

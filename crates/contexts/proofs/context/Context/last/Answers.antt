@@ -4,11 +4,11 @@ use Rattle.answers.specs.Texts.{last_line, shown_bytes}
 use Rattle.contexts.specs.Contexts.{marker_of}
 use Rattle.contexts.proofs.context.Context.last.Goals as goal
 
-pub returns-in_ok-last : goal.returns-in_ok-last
-returns-in_ok-last g c =
+pub returns-in_ok-last-in-Some : goal.returns-in_ok-last-in-Some
+returns-in_ok-last-in-Some g c =
     let t = c.in-Some.track in (
       last_line shown_bytes t.from (length c.part.result.now) c.part.result.now,
-      c.in_ok-last.ensures,
+      c.in_ok-last-in-Some.ensures,
       record {
         cursor = marker_of (λ b. b) t;
         here = ap (option_map (marker_of (λ b. b))) c.in-Some.is;

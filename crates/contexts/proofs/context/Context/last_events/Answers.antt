@@ -11,14 +11,14 @@ use Rattle.contexts.proofs.context.Context.last_events.Goals as goal
 part_codes : {X : Type 0} (f : X → ℕ) (n i : ℕ) (xs : List X) → map f (take n (drop i xs)) ≡ take n (drop i (map f xs))
 part_codes f n i xs = sym (take-map f n (drop i xs)) ∙ ap (take n) (sym (drop-map f i xs))
 
-pub returns-in_ok-last-events : goal.returns-in_ok-last-events
-returns-in_ok-last-events g c =
+pub returns-in_ok-last_events-in-Some : goal.returns-in_ok-last_events-in-Some
+returns-in_ok-last_events-in-Some g c =
     let code = event-symbol.code in
     let t = c.in-Some.track in
     let part = c.part.result.now in
     let e = ap (map code) c.part.ensures ∙ part_codes code (t.to - t.from) t.from (vec_items t.text) in (
       last_line shown_events t.from (length part) (map code part),
-      c.in_ok-last-events.ensures,
+      c.in_ok-last_events-in-Some.ensures,
       record {
         cursor = marker_of code t;
         here = ap (option_map (marker_of code)) c.in-Some.is;

@@ -1,9 +1,8 @@
-use Rattle.std.proofs.Common.{◌≡◌, ℕ, min, List, map, length, Some, Ok, Err, vec_items, string_bytes, codes, sym, refl, ap, ◌∙◌, subst}
+use Rattle.std.proofs.Common.{◌≡◌, ℕ, min, List, map, length, Some, vec_items, string_bytes, sym, ap, ◌∙◌}
 use lib.ListN.{length-map}
-use Rattle.reader.specs.View.{view}
 use Rattle.answers.specs.Texts.{cursor_line}
 use Rattle.answers.proofs.Appending.{answered}
-use Rattle.contexts.specs.Uses.{Marker, Places, Use, placed}
+use Rattle.contexts.specs.Uses.{Places, Use}
 use Rattle.contexts.specs.Contexts.{use_of}
 use Rattle.contexts.proofs.context.Context.place.Goals as goal
 
@@ -16,7 +15,7 @@ made_at u text place n p e f =
 
 pub returns : goal.returns
 returns g c =
-    let code = g.Symbol.Symbol.code in
+    let code = g.B.Symbol.Symbol.code in
     let u = use_of g.B.Book.model code c.args.self.now in
     let text = map code (vec_items c.args.text) in
     let p = c.min-place.result in

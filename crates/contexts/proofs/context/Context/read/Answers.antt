@@ -1,4 +1,4 @@
-use Rattle.std.proofs.Common.{◌≡◌, map, Some, Ok, Err, string_bytes, codes, sym, refl, ap, ◌∙◌}
+use Rattle.std.proofs.Common.{map, string_bytes, refl, ap}
 use Rattle.reader.specs.View.{view}
 use Rattle.answers.specs.Texts.{read_line}
 use Rattle.answers.proofs.Appending.{answered}
@@ -9,7 +9,7 @@ use Rattle.contexts.proofs.context.Context.read.Goals as goal
 pub returns : goal.returns
 returns g c =
     let model = g.B.Book.model in
-    let code = g.Symbol.Symbol.code in
+    let code = g.B.Symbol.Symbol.code in
     let u = use_of model code c.args.self.now in
     let v = view model c.read-answer.new.self in
     let rules = c.read-answer.result.rules in

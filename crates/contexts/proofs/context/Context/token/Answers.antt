@@ -1,19 +1,19 @@
-use Rattle.std.proofs.Common.{◌≡◌, Some, Ok, Err, string_bytes, codes, sym, refl, ap, ◌∙◌}
+use Rattle.std.proofs.Common.{Some, Ok, Err, codes, ap}
 use Rattle.std.specs.Option.{option_map}
 use Rattle.reader.specs.View.{view}
 use Rattle.answers.specs.Texts.{refused_line, token_line}
 use Rattle.contexts.specs.Contexts.{marker_of, use_of}
 use Rattle.contexts.proofs.context.Context.token.Goals as goal
 
-pub returns-in_ok-token : goal.returns-in_ok-token
-returns-in_ok-token g c =
+pub returns-in_ok-token-in-Ok : goal.returns-in_ok-token-in-Ok
+returns-in_ok-token-in-Ok g c =
     let model = g.B.Book.model in
-    let code = g.Symbol.Symbol.code in
+    let code = g.B.Symbol.Symbol.code in
     let u = use_of model code c.args.self.now in
-    let v = view model c.read-token.new.reader in
+    let v = view model c.read_token.new.reader in
     let t = c.in-Ok.token in (
       token_line (codes "token") (model c.book.result.now).meaning.kind t.place t.length t.rules t.count,
-      c.in_ok-token.ensures,
+      c.in_ok-token-in-Ok.ensures,
       record {
         cursor = marker_of code c.in-Some.track;
         here = ap (option_map (marker_of code)) c.in-Some.is;
@@ -25,14 +25,14 @@ returns-in_ok-token g c =
       },
     )
 
-pub returns-in_ok-refused : goal.returns-in_ok-refused
-returns-in_ok-refused g c =
+pub returns-in_ok-refused-in-Err : goal.returns-in_ok-refused-in-Err
+returns-in_ok-refused-in-Err g c =
     let model = g.B.Book.model in
-    let code = g.Symbol.Symbol.code in
+    let code = g.B.Symbol.Symbol.code in
     let u = use_of model code c.args.self.now in
-    let v = view model c.read-token.new.reader in (
+    let v = view model c.read_token.new.reader in (
       refused_line c.tell.result,
-      c.in_ok-refused.ensures,
+      c.in_ok-refused-in-Err.ensures,
       record {
         cursor = marker_of code c.in-Some.track;
         here = ap (option_map (marker_of code)) c.in-Some.is;
