@@ -1,4 +1,4 @@
-use Rattle.std.proofs.Common.{◌≡◌, ℕ, List, ◌++◌, map, Ok, Err, string_bytes, Result, sym, refl, ap, ◌∙◌, subst, MatchResult}
+use Rattle.std.proofs.Common.{ℕ, List, ◌++◌, map, Ok, Err, string_bytes, Result, refl, ap, ◌∙◌, subst, MatchResult}
 use Rattle.std.specs.List.{AllByRecursion as All}
 use Rattle.symbols.specs.contracts.event.EventSymbol.TheImpl.{ghosts as event-symbol}
 use Rattle.books.specs.Refusals.{told}
@@ -41,7 +41,7 @@ returns-in-Ok c =
 pub returns-in-Malformed : goal.returns-in-Malformed
 returns-in-Malformed c = (no_words (subst (λ x. Spells c.args.text.now (Err x)) c.in-Malformed.is c.in-Err.ensures), refl, refl)
 
-pub returns-in_ok-refused : goal.returns-in_ok-refused
-returns-in_ok-refused c =
+pub returns-in_ok-refused-in-OutOfRange : goal.returns-in_ok-refused-in-OutOfRange
+returns-in_ok-refused-in-OutOfRange c =
     let h = subst (λ x. Spells c.args.text.now (Err x)) c.in-OutOfRange.is c.in-Err.ensures in
-    (refused_line (told NoSuchEvent), c.in_ok-refused.ensures ∙ ap (λ t. string_bytes c.args.out.now ++ refused_line t) c.tell.ensures, refused h.0 h.1 h.2 refl)
+    (refused_line (told NoSuchEvent), c.in_ok-refused-in-OutOfRange.ensures ∙ ap (λ t. string_bytes c.args.out.now ++ refused_line t) c.tell.ensures, refused h.0 h.1 h.2 refl)

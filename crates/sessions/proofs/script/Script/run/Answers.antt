@@ -17,7 +17,7 @@ loop-self-preserved c =
 
 pub returns-then-len-ge-FULL : goal.returns-then-len-ge-FULL
 returns-then-len-ge-FULL c = record {
-  rest = c.is-some.ensures ∙ sym (some_mapped (λ x. x.now) c.pass.new.self.rest);
+  rest = c.is_some.ensures ∙ sym (some_mapped (λ x. x.now) c.pass.new.self.rest);
   less = λ _.
       let g = c.loop-self.invariant in
       let h = c.in_ok-pass.ensures in

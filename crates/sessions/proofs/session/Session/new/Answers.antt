@@ -1,4 +1,4 @@
-use Rattle.std.proofs.Common.{◌≡◌, ℕ, None, sym, refl, ap, ◌∙◌, subst}
+use Rattle.std.proofs.Common.{◌≡◌, ℕ, None, sym, ap, ◌∙◌, subst}
 use Rattle.symbols.specs.contracts.event.EventSymbol.TheImpl.{ghosts as event-symbol}
 use Rattle.books.specs.Meaning.{Model}
 use Rattle.numbers.specs.contracts.book.reading.NumberBookBook.TheImpl.{ghosts as number-reading}

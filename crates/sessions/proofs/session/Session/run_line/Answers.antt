@@ -1,4 +1,4 @@
-use Rattle.std.proofs.Common.{ℕ, List, Ok, Err, string_bytes, Result, inl, inr, MatchResult}
+use Rattle.std.proofs.Common.{ℕ, List, Ok, Err, string_bytes, Result, inr, MatchResult}
 use Rattle.lines.specs.Lines.{Spells}
 use Rattle.lines.specs.declared.command.Command.{Command}
 use Rattle.lines.proofs.Decoding.{spells_decodable}

@@ -50,5 +50,5 @@ pub returns-in-Events : goal.returns-in-Events
 returns-in-Events c =
     let task = c.args.task in
     let text = c.args.text.now in
-    dispatched Events (λ h. TakesText h.book task text) (λ h. LacksText h.book task text h.context) c.args.self.now c.in-Events.context c.take-events.new.context
-    (string_bytes c.args.out.now) (string_bytes c.take-events.new.out) c.in-Events.is c.take-events.result refl c.take-events.ensures
+    dispatched Events (λ h. TakesText h.book task text) (λ h. LacksText h.book task text h.context) c.args.self.now c.in-Events.context c.take_events.new.context
+    (string_bytes c.args.out.now) (string_bytes c.take_events.new.out) c.in-Events.is c.take_events.result refl c.take_events.ensures
