@@ -1,6 +1,6 @@
 // One line for each answer, appended to what is there. Each fails only for want of memory.
 ghost use Rattle.std.specs.Prelude.{◌≡◌, ◌++◌, map, length, string_bytes, codes, OnOk};
-ghost use Rattle.symbols.specs.contracts.event.EventSymbol.TheImpl.{ghosts as event-symbol};
+ghost use Rattle.symbols.specs.contracts.event.EventSymbol.TheImpl.{ghosts as event_symbol};
 ghost use Rattle.answers.specs.Texts.{numbered, new_line, change_line, kind_line, read_line, finish_line, cursor_line, token_line, last_line, shown_bytes, shown_events, feed_line, refused_line, malformed_line};
 
 use crate::bytes::write_bytes;
@@ -83,7 +83,7 @@ pub fn last(out: &mut String, place: usize, bytes: &[u8]) -> Result<(), AllocErr
 
 // The last token read over events: where it begins, and its events.
 pub fn last_events(out: &mut String, place: usize, events: &[Event]) -> Result<(), AllocError>
-    ensures { OnOk result (string_bytes out.new ≡ string_bytes out.old ++ last_line shown_events place (length events.now) (map event-symbol.code events.now)) }
+    ensures { OnOk result (string_bytes out.new ≡ string_bytes out.old ++ last_line shown_events place (length events.now) (map event_symbol.code events.now)) }
 {
     let length = events.len();
     write!(out, "last place={place} length={length}")?;

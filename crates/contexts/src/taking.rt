@@ -1,6 +1,6 @@
 // What is done with a text.
 ghost use Rattle.std.specs.Prelude.{◌≡◌, ◌-◌, map, take, drop, string_bytes, MatchResult};
-ghost use Rattle.symbols.specs.contracts.event.EventSymbol.TheImpl.{ghosts as event-symbol};
+ghost use Rattle.symbols.specs.contracts.event.EventSymbol.TheImpl.{ghosts as event_symbol};
 ghost use Rattle.answers.specs.Texts.{last_line, shown_bytes, shown_events};
 ghost use Rattle.contexts.specs.Faults.{Wants};
 ghost use Rattle.contexts.specs.Uses.{Answers, Shows, Takes, wanting_cursor, wanting_for};
@@ -54,8 +54,8 @@ impl<B: Book<Symbol = Event>> Context<B> {
     // Shows the last token of a cursor over events.
     pub fn last_events(&self, out: &mut String) -> Result<(), Fault>
         ensures { MatchResult result
-            (λ _. Answers (Shows (last_line shown_events) (use_of B.Book.model event-symbol.code self.now) (use_of B.Book.model event-symbol.code self.now)) (string_bytes out.old) (string_bytes out.new))
-            (λ f. Wants (wanting_cursor (use_of B.Book.model event-symbol.code self.now)) f self.now self.now (string_bytes out.old) (string_bytes out.new)) }
+            (λ _. Answers (Shows (last_line shown_events) (use_of B.Book.model event_symbol.code self.now) (use_of B.Book.model event_symbol.code self.now)) (string_bytes out.old) (string_bytes out.new))
+            (λ f. Wants (wanting_cursor (use_of B.Book.model event_symbol.code self.now)) f self.now self.now (string_bytes out.old) (string_bytes out.new)) }
     {
         match &self.cursor {
             Some(track) => Ok(answers::last_events(out, track.from, track.part())?),

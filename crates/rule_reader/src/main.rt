@@ -1,10 +1,10 @@
 // Runs a script, one command to a line: from the file that the first argument names, or else from standard input.
 #![tactic(auto)]
 
-use anyhow::anyhow;
 use lines::BookName;
 use sessions::{Script, Session};
 use std::io::Read;
+use std::process::ExitCode;
 use std::{env, fs, io};
 
 fn script_text(rt: &HostRuntime) -> io::Result<Vec<u8>> {
@@ -43,10 +43,10 @@ fn run(rt: &HostRuntime) -> anyhow::Result<bool> {
 }
 
 // Status 1 for a malformed line, which is reported by then, and for a script that cannot be read.
-fn main(rt: HostRuntime) -> anyhow::Result<()> {
+fn main(rt: HostRuntime) -> anyhow::Result<ExitCode> {
     if run(&rt)? {
-        Ok(())
+        Ok(ExitCode::SUCCESS)
     } else {
-        Err(anyhow!("malformed"))
+        Ok(ExitCode::FAILURE)
     }
 }

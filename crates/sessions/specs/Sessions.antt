@@ -1,6 +1,6 @@
 -- What a command does in a session, and the text of its answer.
 use Rattle.std.specs.Prelude.{◌≡◌, ℕ, false, ◌⊎◌, List, map, Some, None, codes, Option}
-use Rattle.std.specs.List.{AllByRecursion as All}
+use Rattle.std.specs.List.{AllByRecursion}
 use Rattle.states.specs.Sets.{has_rule}
 use Rattle.books.specs.Meaning.{Meaning, Model}
 use Rattle.books.specs.Refusals.{told}
@@ -13,7 +13,7 @@ use Rattle.readings.specs.Calls.Call.{add, delete}
 use Rattle.reader.specs.Answers.{change_refusal}
 use Rattle.numbers.specs.Number.{number_model}
 use Rattle.templates.specs.Templates.{template_refusal}
-use Rattle.expressions.specs.Rules.{refusal as expression-refusal}
+use Rattle.expressions.specs.Rules.{refusal as expression_refusal}
 use Rattle.event_words.specs.Words.{InRange, Named, NamesEach, named_code, words}
 use Rattle.lines.specs.Hex.{written}
 use Rattle.lines.specs.Lines.{Spells}
@@ -53,8 +53,8 @@ AddsBy refusal word rule kind bytes u w answer =
 abbrev pub Codes : BookName → ℕ → ℕ → List ℕ → Use → Use → List ℕ → Type 0
 Codes Numbers rule kind bytes u w answer = ⊥
 Codes Templates rule kind bytes u w answer = AddsBy template_refusal (codes "code") rule kind bytes u w answer
-Codes Expressions rule kind bytes u w answer = AddsBy (expression-refusal 255) (codes "code") rule kind bytes u w answer
-Codes Events rule kind bytes u w answer = AddsBy (expression-refusal 65535) (codes "code") rule kind bytes u w answer
+Codes Expressions rule kind bytes u w answer = AddsBy (expression_refusal 255) (codes "code") rule kind bytes u w answer
+Codes Events rule kind bytes u w answer = AddsBy (expression_refusal 65535) (codes "code") rule kind bytes u w answer
 
 -- a rule is added to the book of this name by the text that a person types for it
 abbrev pub Adds : BookName → ℕ → ℕ → List ℕ → Use → Use → List ℕ → Type 0
@@ -92,8 +92,8 @@ wanting_typed Events = Some expected.Code
 
 -- Over events a text is words. Where one names no event, it is refused, and nothing else is done.
 pub data TakesEvents (task : Task) (text : List ℕ) (u w : Use) : List ℕ → Type 0 where
-  named : {answer : List ℕ} (ns : List Named) → NamesEach (words text) ns → All InRange ns → Takes task (map named_code ns) u w answer → TakesEvents task text u w answer
-  refused : (ns : List Named) → NamesEach (words text) ns → (All InRange ns → ⊥) → w ≡ u → TakesEvents task text u w (refused_line (told NoSuchEvent))
+  named : {answer : List ℕ} (ns : List Named) → NamesEach (words text) ns → AllByRecursion InRange ns → Takes task (map named_code ns) u w answer → TakesEvents task text u w answer
+  refused : (ns : List Named) → NamesEach (words text) ns → (AllByRecursion InRange ns → ⊥) → w ≡ u → TakesEvents task text u w (refused_line (told NoSuchEvent))
 
 -- what is done with a text over the book of this name
 abbrev pub TakesText : BookName → Task → List ℕ → Use → Use → List ℕ → Type 0
@@ -105,7 +105,7 @@ TakesText Events task text u w answer = TakesEvents task text u w answer
 -- what is expected of a text over events that is not taken: words, or what the task wants
 pub data LacksEvents (task : Task) (text : List ℕ) (u : Use) : Expected → Type 0 where
   no_words : ((ns : List Named) → NamesEach (words text) ns → ⊥) → LacksEvents task text u expected.Events
-  wanted : {x : Expected} (ns : List Named) → NamesEach (words text) ns → All InRange ns → wanting_for task u ≡ Some x → LacksEvents task text u x
+  wanted : {x : Expected} (ns : List Named) → NamesEach (words text) ns → AllByRecursion InRange ns → wanting_for task u ≡ Some x → LacksEvents task text u x
 
 abbrev pub LacksText : BookName → Task → List ℕ → Use → Expected → Type 0
 LacksText Numbers task text u x = wanting_for task u ≡ Some x

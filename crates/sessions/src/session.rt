@@ -9,7 +9,7 @@ ghost use Rattle.contexts.specs.Uses.{Answers, Obeys, Shows, wanting, wanting_cu
 ghost use Rattle.sessions.specs.Sessions.{Adds, Codes, Deletes, Lacks, LacksEvents, LacksText, Misses, NewBook, Runs, TakesEvents, TakesText, Unrun, Within, new_use, shown, wanting_change, wanting_typed};
 ghost use Rattle.expression_book.specs.Tables.{book_model};
 ghost use Rattle.sessions.specs.Views.{here_of};
-ghost use Rattle.symbols.specs.contracts.event.EventSymbol.TheImpl.{ghosts as event-symbol};
+ghost use Rattle.symbols.specs.contracts.event.EventSymbol.TheImpl.{ghosts as event_symbol};
 
 use books::{ChangingBook, Refusal};
 use contexts::{Context, Fault};
@@ -198,8 +198,8 @@ fn take_events(
     out: &mut String,
 ) -> Result<(), Fault>
     ensures { MatchResult result
-        (λ _. Answers (TakesEvents task text.now (use_of book_model event-symbol.code context.old) (use_of book_model event-symbol.code context.new)) (string_bytes out.old) (string_bytes out.new))
-        (λ f. Misses (LacksEvents task text.now (use_of book_model event-symbol.code context.old)) f context.old context.new (string_bytes out.old) (string_bytes out.new)) }
+        (λ _. Answers (TakesEvents task text.now (use_of book_model event_symbol.code context.old) (use_of book_model event_symbol.code context.new)) (string_bytes out.old) (string_bytes out.new))
+        (λ f. Misses (LacksEvents task text.now (use_of book_model event_symbol.code context.old)) f context.old context.new (string_bytes out.old) (string_bytes out.new)) }
 {
     match events_of(heap, text) {
         Ok(events) => context.take(heap, task, &events, out),

@@ -1,5 +1,5 @@
 use Rattle.std.proofs.Common.{[], ◌∷◌, ◌++◌, map, length, string_bytes, codes}
-use Rattle.symbols.specs.contracts.event.EventSymbol.TheImpl.{ghosts as event-symbol}
+use Rattle.symbols.specs.contracts.event.EventSymbol.TheImpl.{ghosts as event_symbol}
 use Rattle.answers.specs.Texts.{shown_events, span}
 use Rattle.answers.proofs.Appending.{appended}
 use Rattle.answers.proofs.answers.last_events.Goals as goal
@@ -9,7 +9,7 @@ returns c =
     let r = c.writeln.result in
     let out = string_bytes c.args.out.now in
     let end = string_bytes c.writeln.new.self in
-    let codes_of = map event-symbol.code c.args.events.now in
+    let codes_of = map event_symbol.code c.args.events.now in
     let head = span (codes "last") c.args.place (length c.args.events.now) in
     let one = string_bytes c.write.new.self in
     let two = string_bytes c.write-2.new.self in

@@ -1,6 +1,6 @@
 use Rattle.std.proofs.Common.{◌≡◌, ℕ, ◌+◌, ◌-◌, ◌<◌, ◌≤◌, List, [], ◌∷◌, ◌++◌, map, length, get_or, take, drop, string_bytes, sym, ap, ◌∙◌, append_assoc, append-nil, arith, rules}
 use Rattle.std.proofs.lemmas.List.{drop_all, drop_more, take_rest}
-use Rattle.symbols.specs.contracts.event.EventSymbol.TheImpl.{ghosts as event-symbol}
+use Rattle.symbols.specs.contracts.event.EventSymbol.TheImpl.{ghosts as event_symbol}
 use Rattle.answers.specs.Texts.{event_text, shown_events, spaced_events}
 use Rattle.answers.proofs.events.write_events.Goals as goal
 
@@ -34,16 +34,16 @@ module _ {X : Type 0} (f : X → ℕ) where
   shown_none out (y ∷ ys) l = absurd (omega arith)
 
 pub returns-in_default : goal.returns-in_default
-returns-in_default c = shown_none event-symbol.code (string_bytes c.args.out.now) c.args.events.now (search rules)
+returns-in_default c = shown_none event_symbol.code (string_bytes c.args.out.now) c.args.events.now (search rules)
 
 pub loop-event-preserved : goal.loop-event-preserved
 loop-event-preserved c =
     let events = c.args.events.now in
-    spaced_more event-symbol.code (string_bytes c.loop-event.out) (string_bytes c.write.new.self) (string_bytes c.write_event-in-loop-event.new.out) (take (length events - 1) (drop 1 events))
+    spaced_more event_symbol.code (string_bytes c.loop-event.out) (string_bytes c.write.new.self) (string_bytes c.write_event-in-loop-event.new.out) (take (length events - 1) (drop 1 events))
     c.loop-event.event-index c.event-item.result (omega arith) c.event-item.is c.in_ok-write.ensures.bytes c.in_ok-write_event-2.ensures
     ∙ c.loop-event.invariant
 
 pub returns : goal.returns
 returns c =
-    shown_all event-symbol.code (string_bytes c.args.out.now) (string_bytes c.write_event.new.out) (string_bytes c.loop-event.out) c.args.events.now c.loop-event.event-index c.first-item.result
+    shown_all event_symbol.code (string_bytes c.args.out.now) (string_bytes c.write_event.new.out) (string_bytes c.loop-event.out) c.args.events.now c.loop-event.event-index c.first-item.result
     (search rules) c.first-item.is c.in_ok-write_event.ensures (omega arith) c.loop-event.invariant

@@ -1,6 +1,6 @@
 use Rattle.std.proofs.Common.{ℕ, List, ◌++◌, map, Ok, Err, string_bytes, Result, refl, ap, ◌∙◌, subst, MatchResult}
-use Rattle.std.specs.List.{AllByRecursion as All}
-use Rattle.symbols.specs.contracts.event.EventSymbol.TheImpl.{ghosts as event-symbol}
+use Rattle.std.specs.List.{AllByRecursion}
+use Rattle.symbols.specs.contracts.event.EventSymbol.TheImpl.{ghosts as event_symbol}
 use Rattle.books.specs.Refusals.{told}
 use Rattle.books.specs.declared.refusal.Refusal.TheVariants.{NoSuchEvent}
 use Rattle.lines.specs.declared.command.Task.{Task}
@@ -18,7 +18,7 @@ use Rattle.sessions.specs.Sessions.LacksEvents.{no_words, wanted}
 use Rattle.sessions.proofs.session.take_events.Goals as goal
 
 -- what is done with the events that a text names
-taken : {S : Type 0} (task : Task) (text : List ℕ) (u w : Use) (s t : S) (before after : List ℕ) (ns : List Named) → NamesEach (words text) ns → All InRange ns → (r : Result (Unit {0}) Fault)
+taken : {S : Type 0} (task : Task) (text : List ℕ) (u w : Use) (s t : S) (before after : List ℕ) (ns : List Named) → NamesEach (words text) ns → AllByRecursion InRange ns → (r : Result (Unit {0}) Fault)
     → MatchResult r (λ _. Answers (Takes task (map named_code ns) u w) before after) (λ f. Wants (wanting_for task u) f s t before after)
     → MatchResult r (λ _. Answers (TakesEvents task text u w) before after) (λ f. Misses (LacksEvents task text u) f s t before after)
 taken task text u w s t before after ns names range (Ok x) h = (h.0, h.1, named ns names range h.2)
@@ -27,7 +27,7 @@ taken task text u w s t before after ns names range (Err NoMemory) h = tt
 
 pub returns-in-Ok : goal.returns-in-Ok
 returns-in-Ok c =
-    let code = event-symbol.code in
+    let code = event_symbol.code in
     let task = c.args.task in
     let u = use_of book_model code c.args.context.now in
     let w = use_of book_model code c.take.new.self in

@@ -2,7 +2,7 @@ use Rattle.std.proofs.Common.{◌≡◌, ℕ, ◌-◌, List, map, length, take, 
 use lib.ListN.{length-map}
 use Rattle.std.specs.Option.{option_map}
 use Rattle.std.proofs.lemmas.List.{drop-map, take-map}
-use Rattle.symbols.specs.contracts.event.EventSymbol.TheImpl.{ghosts as event-symbol}
+use Rattle.symbols.specs.contracts.event.EventSymbol.TheImpl.{ghosts as event_symbol}
 use Rattle.answers.specs.Texts.{last_line, shown_events}
 use Rattle.contexts.specs.Contexts.{marker_of}
 use Rattle.contexts.proofs.context.Context.last_events.Goals as goal
@@ -13,7 +13,7 @@ part_codes f n i xs = sym (take-map f n (drop i xs)) ∙ ap (take n) (sym (drop-
 
 pub returns-in_ok-last_events-in-Some : goal.returns-in_ok-last_events-in-Some
 returns-in_ok-last_events-in-Some g c =
-    let code = event-symbol.code in
+    let code = event_symbol.code in
     let t = c.in-Some.track in
     let part = c.part.result.now in
     let e = ap (map code) c.part.ensures ∙ part_codes code (t.to - t.from) t.from (vec_items t.text) in (
