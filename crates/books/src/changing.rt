@@ -1,5 +1,5 @@
 // The changing interface, above the reading one.
-ghost use Rattle.std.specs.Prelude.{◌≡◌, ℕ, List, Option, MatchResult, OnOk};
+ghost use Rattle.std.specs.Prelude.{◌≡◌, ℕ, List, Option, MatchResult, OnOk, ⊤};
 ghost use Rattle.std.specs.Result.{result_err};
 ghost use Rattle.books.specs.Meaning.{Meaning};
 ghost use Rattle.books.specs.Changes.{Added, Deleted, Changed, delete_refusal};
@@ -13,11 +13,12 @@ pub trait ChangingBook: Book {
     // why adding a rule by its number, kind and bytes is refused, if it is, by what the book means alone
     ghost refusal: { Meaning → ℕ → ℕ → List ℕ → Option BookFault };
 
-    // what an accepted adding by the rule's number, kind and bytes makes of a meaning, beyond what it does in every book
-    ghost grows: { ℕ → ℕ → List ℕ → Meaning → Meaning → Type 0 };
+    // what an accepted adding by the rule's number, kind and bytes makes of a meaning, beyond what it does in every book;
+    // a book that says nothing of it leaves this out
+    ghost grows: { ℕ → ℕ → List ℕ → Meaning → Meaning → Type 0 } = { λ _ _ _ _ _. ⊤ };
 
     // the same of an accepted deletion by the rule's number
-    ghost shrinks: { ℕ → Meaning → Meaning → Type 0 };
+    ghost shrinks: { ℕ → Meaning → Meaning → Type 0 } = { λ _ _ _. ⊤ };
 
     // Puts a rule in force.
     fn add(&mut self, rule: u32, kind: u32, bytes: &[u8]) -> Result<(), BookFault>

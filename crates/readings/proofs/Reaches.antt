@@ -24,7 +24,11 @@ module _ (does : Call → Told → ℕ → View → View → Type 0) where
   reaches_chain v w [] r = tt
   reaches_chain v w (e ∷ es) r = (r.0, r.1, r.2, reaches_chain r.0 w es r.3)
 
--- calls that do what they do over every book are a history
+-- a chain of calls that do what they do over every book is a history
+pub chain_history : (v : View) (es : List Entry) → Chain Does v es → History v es
+chain_history v [] h = tt
+chain_history v (e ∷ es) h = (h.0, h.1, h.2, chain_history h.0 es h.3)
+
+-- and so is one that leaves a reader
 pub reaches_history : (v w : View) (es : List Entry) → Reaches Does v es w → History v es
-reaches_history v w [] r = tt
-reaches_history v w (e ∷ es) r = (r.0, r.1, r.2, reaches_history r.0 w es r.3)
+reaches_history v w es r = chain_history v es (reaches_chain Does v w es r)

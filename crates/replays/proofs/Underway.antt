@@ -4,11 +4,11 @@ use Rattle.std.proofs.lemmas.List.{map-append}
 use Rattle.books.specs.Meaning.{Model, Lawful}
 use Rattle.readings.specs.Views.{View, fresh}
 use Rattle.readings.specs.Readings.{Told}
-use Rattle.readings.specs.Calls.{Call}
+use Rattle.readings.specs.Calls.{Call, Does}
 use Rattle.readings.specs.Entries.{Entry}
 use Rattle.readings.specs.Changing.{Chain}
 use Rattle.readings.specs.Histories.{History}
-use Rattle.readings.proofs.Reaches.{Reaches, reaches_more, reaches_chain}
+use Rattle.readings.proofs.Reaches.{Reaches, reaches_more, reaches_chain, chain_history}
 use Rattle.readings.proofs.Stand.{stands}
 use Rattle.replays.specs.Replays.{call_of, told_of, count_of, Replayed, ReplayedBy}
 use Rattle.replays.specs.declared.log.Ask.{Ask}
@@ -43,10 +43,10 @@ module _ {S : Type 0} (code : S → ℕ) (does : Call → Told → ℕ → View 
         reaches = reaches_more does v w u p.entries x p.reaches refl d;
       })
 
-  pub replaying_done : {asks all : List (Ask S)} {log : List Reply} {w : View} (b : Model) (edition : ℕ) → v ≡ fresh b edition → Lawful b.meaning
+  pub replaying_done_by : {asks all : List (Ask S)} {log : List Reply} {w : View} (b : Model) (edition : ℕ) → v ≡ fresh b edition → Lawful b.meaning
       → ((es : List Entry) → Chain does (fresh b edition) es → History (fresh b edition) es) → all ≡ asks
       → Replaying code does v asks log w → ReplayedBy code does (fresh b edition) all log
-  replaying_done {asks} {all} {log} {w} b edition new l histories e p =
+  replaying_done_by {asks} {all} {log} {w} b edition new l histories e p =
       let h = subst (λ x. Reaches does x p.entries w) new p.reaches in
       let chain = reaches_chain does (fresh b edition) w p.entries h in
       record {
@@ -69,6 +69,12 @@ module _ {S : Type 0} (code : S → ℕ) (does : Call → Told → ℕ → View 
     history = histories p.entries p.chain;
     stands = p.stands;
   }
+
+-- a log of calls that do what they do over every book is a history
+pub replaying_done : {S : Type 0} (code : S → ℕ) (v : View) {asks all : List (Ask S)} {log : List Reply} {w : View} (b : Model) (edition : ℕ)
+    → v ≡ fresh b edition → Lawful b.meaning → all ≡ asks → Replaying code Does v asks log w → Replayed code (fresh b edition) all log
+replaying_done code v b edition new l e p =
+    replayed_by code Does (fresh b edition) (chain_history _) (replaying_done_by code Does v b edition new l (chain_history _) e p)
 
 -- what is left of a list that is used up
 pub none_left : {X : Type 0} (xs : List X) → length xs ≡ 0 → xs ≡ []
