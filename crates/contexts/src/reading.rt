@@ -1,6 +1,6 @@
 // Reading whole texts, and tokens at the cursor.
 ghost use Rattle.std.specs.Prelude.{◌≡◌, map, Some, string_bytes, codes, MatchResult, OnOk};
-ghost use Rattle.readings.specs.Readings.Reading.{token as tokenAt, peek as peek_at};
+ghost use Rattle.readings.specs.Readings.Reading.{token as token_at, peek as peek_at};
 ghost use Rattle.readings.specs.Calls.{Does};
 ghost use Rattle.readings.specs.Calls.Call.{read as reads};
 ghost use Rattle.reader.specs.Answers.{token_told, token_count};
@@ -81,7 +81,7 @@ fn read_token<B: Book>(
     reader: &mut Reader<B>,
     track: &mut Track<B::Symbol>,
 ) -> Result<Token, Refusal>
-    ensures does { Does (reads (tokenAt (map B.Symbol.Symbol.code track.old.text.items) track.old.place)) (token_told result) (token_count result) (view B.Book.model reader.old) (view B.Book.model reader.new) }
+    ensures does { Does (reads (token_at (map B.Symbol.Symbol.code track.old.text.items) track.old.place)) (token_told result) (token_count result) (view B.Book.model reader.old) (view B.Book.model reader.new) }
     ensures moves { marker_of B.Symbol.Symbol.code track.new ≡ moved (marker_of B.Symbol.Symbol.code track.old) result }
 {
     let mut cursor = Cursor::new(&track.text, track.place);
