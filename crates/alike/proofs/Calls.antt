@@ -1,8 +1,7 @@
 -- The same call of two readers over books with the same rules tells the same, and leaves books with the same rules. Assumes nothing.
 use Rattle.std.proofs.Common.{◌≡◌, ℕ, ◌+◌, false, List, [], drop, is_some, Some, None, Option, sym, refl, ap, ◌∙◌, subst, inl, inr, le_refl, arith}
 use Rattle.std.proofs.lemmas.Bool.{both_ways}
-use Rattle.states.specs.declared.state.State.{State}
-use Rattle.states.specs.declared.rules.Rules.{Rules}
+use Rattle.states.specs.Sets.{State, Rules}
 use Rattle.books.specs.Meaning.{Meaning}
 use Rattle.books.specs.Texts.{meets}
 use Rattle.books.specs.declared.faults.BookFault.{BookFault}

@@ -1,8 +1,7 @@
 -- Two readers over books with the same rules, whose walks of the present edition were fed the same texts. Assumes nothing.
 use Rattle.std.proofs.Common.{◌≡◌, ℕ, ◌≤◌, List, [], ◌∷◌, ◌++◌, take, sym, refl, ap, ◌∙◌, subst, inl, inr}
 use Rattle.std.proofs.lemmas.Bool.{both_ways, cases_order}
-use Rattle.states.specs.declared.state.State.{State}
-use Rattle.states.specs.Sets.{no_rule}
+use Rattle.states.specs.Sets.{State, no_rule}
 use Rattle.books.specs.Meaning.{Meaning, Lawful, Within}
 use Rattle.books.specs.Texts.{after, meets}
 use Rattle.readings.specs.Views.{View}

@@ -1,6 +1,6 @@
 -- When two readers over expression books answer alike.
 use Rattle.std.specs.Prelude.{◌≡◌, ℕ, Bool, true, ◌⊎◌, List, [], ◌∷◌}
-use Rattle.states.specs.declared.state.State.{State}
+use Rattle.states.specs.Sets.{State}
 use Rattle.books.specs.Meaning.{Lawful}
 use Rattle.readings.specs.Views.{View}
 use Rattle.readings.specs.Readings.{Told}

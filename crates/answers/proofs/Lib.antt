@@ -1,2 +1,4 @@
 pub mod Appending
+mod Bytes
 mod Listing
+mod Writing

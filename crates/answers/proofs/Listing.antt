@@ -1,10 +1,10 @@
 -- Taking the least member out of a set of rules takes the first element off the list of its members.
-use Rattle.std.proofs.Common.{◌≡◌, ℕ, zero, suc, ◌+◌, ◌<◌, ◌≤◌, Bool, true, false, not, ◌&&◌, eqb, List, [], ◌∷◌, ◌++◌, Some, codes, filter, sym, refl, ap, ◌∙◌, inl, inr, append_assoc, append-nil, arith}
+use Rattle.std.proofs.Common.{◌≡◌, ℕ, zero, suc, ◌+◌, ◌<◌, ◌≤◌, Bool, true, false, not, ◌&&◌, eqb, List, [], ◌∷◌, ◌++◌, Some, codes, filter, sym, refl, ap, ◌∙◌, inl, inr, append_assoc, arith}
 use Rattle.std.proofs.lemmas.Bool.{cases_lt, cases_eq, cond-true, cond-false, and_left, and_right, eq-eqb, ne_eqb}
 use Rattle.states.specs.Sets.{has_rule}
 use Rattle.states.specs.Words.{Popped, Least}
-use Rattle.states.specs.declared.rules.Rules.{Rules}
-use Rattle.states.proofs.Digits.{bit_above}
+use Rattle.states.specs.Sets.{Rules}
+use Rattle.states.proofs.Members.{member_below}
 use Rattle.answers.specs.Texts.{rising, members, trailed, listed}
 
 -- tests that agree from n on keep the same
@@ -42,35 +42,26 @@ none_members : (s : Rules) → ((p : ℕ) → has_rule s p ≡ false) → member
 unfolding members
 none_members s h = none_kept (has_rule s) 64 0 h
 
-below : (s : Rules) (m : ℕ) → has_rule s m ≡ true → m < 64
-unfolding has_rule
-below s m h = elim (cases_lt m 64) [
-  | inl l ↦ l
-  | inr l ↦ let e = bit_above 64 s.bits m s.fits l in absurd (let z : ◌≡◌ {A = ℕ} 0 1 = cc in omega arith)
-]
-
 popped_members : (s t : Rules) (m : ℕ) → Popped has_rule 64 s t (Some m) → members s ≡ m ∷ members t
 unfolding members
-popped_members s t m h = first_kept (has_rule s) (has_rule t) m h.0 h.1 64 0 (omega arith) (below s m h.0.member)
+popped_members s t m h = first_kept (has_rule s) (has_rule t) m h.0 h.1 64 0 (omega arith) (member_below s m h.0.member)
 
 module _ (text : ℕ → List ℕ) where
+  -- what stands behind the items that are written
+  abbrev pub behind : Rules → List ℕ
+  behind s = trailed (codes ",") text (members s)
+
   pub listed_none : (s : Rules) → ((p : ℕ) → has_rule s p ≡ false) → listed text (members s) ≡ codes "-"
   listed_none s h = ap (listed text) (none_members s h)
 
-  -- one member more is written
-  pub listed_more : (out bytes : List ℕ) (s t : Rules) (n : ℕ) → Popped has_rule 64 s t (Some n) → bytes ≡ out ++ (44 ∷ text n) → bytes ++ trailed text (members t) ≡ out ++ trailed text (members s)
-  listed_more out bytes s t n h e =
-      ap (λ b. b ++ trailed text (members t)) e
-      ∙ append_assoc out (44 ∷ text n) (trailed text (members t))
-      ∙ ap (λ ms. out ++ trailed text ms) (sym (popped_members s t n h))
+  pub behind_none : (s : Rules) → ((p : ℕ) → has_rule s p ≡ false) → behind s ≡ []
+  behind_none s h = ap (trailed (codes ",") text) (none_members s h)
 
-  -- the first member is written, and then the others
-  pub listed_all : (out one all : List ℕ) (rules rest last : Rules) (n : ℕ) → Popped has_rule 64 rules rest (Some n) → one ≡ out ++ text n → ((p : ℕ) → has_rule last p ≡ false)
-      → all ++ trailed text (members last) ≡ one ++ trailed text (members rest) → all ≡ out ++ listed text (members rules)
-  listed_all out one all rules rest last n h e none k =
-      sym (append-nil all)
-      ∙ ap (λ ms. all ++ trailed text ms) (sym (none_members last none))
-      ∙ k
-      ∙ ap (λ b. b ++ trailed text (members rest)) e
-      ∙ append_assoc out (text n) (trailed text (members rest))
-      ∙ ap (λ ms. out ++ listed text ms) (sym (popped_members rules rest n h))
+  -- the first item is written
+  pub listed_first : (s t : Rules) (n : ℕ) → Popped has_rule 64 s t (Some n) → text n ++ behind t ≡ listed text (members s)
+  listed_first s t n h = ap (listed text) (sym (popped_members s t n h))
+
+  -- one item more is written
+  pub listed_more : (done : List ℕ) (s t : Rules) (n : ℕ) → Popped has_rule 64 s t (Some n) → (done ++ (44 ∷ text n)) ++ behind t ≡ done ++ behind s
+  listed_more done s t n h =
+      append_assoc done (44 ∷ text n) (behind t) ∙ ap (λ ms. done ++ trailed (codes ",") text ms) (sym (popped_members s t n h))

@@ -1,11 +1,18 @@
 -- The text of answers.
-use Rattle.std.specs.Prelude.{ℕ, zero, suc, ◌+◌, ◌/◌, ◌%◌, Bool, true, false, cond, not, ◌&&◌, List, [], ◌∷◌, ◌++◌, Some, None, codes, decimal, filter, Option, ◌==◌, nat_le, nat_lt}
+use Rattle.std.specs.Prelude.{◌≡◌, ℕ, zero, suc, ◌+◌, ◌/◌, ◌%◌, Bool, true, false, cond, not, ◌&&◌, List, [], ◌∷◌, ◌++◌, Some, None, OnOk, String, string_bytes, codes, decimal, filter, Option, Result, ◌==◌, nat_le, nat_lt}
+use Rattle.std.specs.declared.alloc.Global.{Global}
+use Rattle.symbols.specs.Texts.{event_words}
 use Rattle.states.specs.Sets.{has_rule}
-use Rattle.states.specs.declared.rules.Rules.{Rules}
+use Rattle.states.specs.Sets.{Rules}
+use Rattle.books.specs.Refusals.{told_text}
 use Rattle.books.specs.declared.refusal.Told.{Told}
 use Rattle.lines.specs.Lines.{book_word, expected_text}
 use Rattle.lines.specs.declared.command.BookName.{BookName}
 use Rattle.lines.specs.declared.command.Expected.{Expected}
+
+-- Unless there was no memory, `answer` is written behind what was there.
+abbrev pub Writes : {E : Type 0} → Result (Unit {0}) E → String Global → String Global → List ℕ → Type 0
+Writes result before after answer = OnOk result (string_bytes after ≡ string_bytes before ++ answer)
 
 -- a line of a name and a number
 abbrev pub numbered : List ℕ → ℕ → List ℕ
@@ -35,15 +42,20 @@ rising (suc k) n = n ∷ rising k (n + 1)
 unfoldable pub members : Rules → List ℕ
 members rules = filter (has_rule rules) (rising 64 0)
 
--- each element's text behind a comma
-abbrev pub trailed : (ℕ → List ℕ) → List ℕ → List ℕ
-trailed text [] = []
-trailed text (n ∷ ns) = 44 ∷ (text n ++ trailed text ns)
+-- each element's text behind what stands between two
+abbrev pub trailed : List ℕ → (ℕ → List ℕ) → List ℕ → List ℕ
+trailed between text [] = []
+trailed between text (n ∷ ns) = between ++ (text n ++ trailed between text ns)
+
+-- the elements' texts with `between` between two
+abbrev pub parted : List ℕ → (ℕ → List ℕ) → List ℕ → List ℕ
+parted between text [] = []
+parted between text (n ∷ ns) = text n ++ trailed between text ns
 
 -- the elements' texts with commas between them, or a dash where there is none
 abbrev pub listed : (ℕ → List ℕ) → List ℕ → List ℕ
 listed text [] = codes "-"
-listed text (n ∷ ns) = text n ++ trailed text ns
+listed text (n ∷ ns) = parted (codes ",") text (n ∷ ns)
 
 -- rules and their kinds, where `kind` tells the kind of a rule
 unfoldable pub met : (ℕ → Option ℕ) → Rules → List ℕ
@@ -55,16 +67,16 @@ read_line kind rules count = codes "read " ++ (met kind rules ++ numbered (codes
 abbrev pub finish_line : (ℕ → Option ℕ) → Rules → List ℕ
 finish_line kind rules = codes "finish " ++ (met kind rules ++ (10 ∷ []))
 
--- a word, a place and a length
-abbrev pub span : List ℕ → ℕ → ℕ → List ℕ
-span word place length = word ++ (codes " place=" ++ (decimal place ++ (codes " length=" ++ decimal length)))
+-- a word, a place, a length, and what follows them
+abbrev pub span : List ℕ → ℕ → ℕ → List ℕ → List ℕ
+span word place length more = word ++ (codes " place=" ++ (decimal place ++ (codes " length=" ++ (decimal length ++ more))))
 
 abbrev pub cursor_line : ℕ → ℕ → List ℕ
 cursor_line place length = codes "cursor place=" ++ (decimal place ++ numbered (codes " length=") length)
 
 -- a token, by the word of the command that read or peeked it
 abbrev pub token_line : List ℕ → (ℕ → Option ℕ) → ℕ → ℕ → Rules → ℕ → List ℕ
-token_line word kind place length rules count = span word place length ++ (codes " " ++ (met kind rules ++ numbered (codes " count=") count))
+token_line word kind place length rules count = span word place length (codes " " ++ (met kind rules ++ numbered (codes " count=") count))
 
 -- a hex digit, from 0 to 15
 abbrev pub hex_digit : ℕ → ℕ
@@ -78,35 +90,28 @@ plain b = nat_le 32 b && (nat_le b 126 && (not (b == 34) && not (b == 92)))
 unfoldable pub shown_byte : ℕ → List ℕ
 shown_byte b = cond (plain b) (b ∷ []) (92 ∷ 120 ∷ hex_digit (b / 16) ∷ hex_digit (b % 16) ∷ [])
 
+-- bytes one after the other
 abbrev pub shown_bytes : List ℕ → List ℕ
-shown_bytes [] = []
-shown_bytes (b ∷ bs) = shown_byte b ++ shown_bytes bs
+shown_bytes = parted [] shown_byte
 
 -- an event by its code: its machine, a point and its kind
 unfoldable pub event_text : ℕ → List ℕ
-event_text c = decimal (c / 4096) ++ (46 ∷ decimal (c % 4096))
-
--- each event behind a space
-abbrev pub spaced_events : List ℕ → List ℕ
-spaced_events [] = []
-spaced_events (c ∷ cs) = 32 ∷ (event_text c ++ spaced_events cs)
+event_text c = event_words (c / 4096) (c % 4096)
 
 -- events with a space between them
 abbrev pub shown_events : List ℕ → List ℕ
-shown_events [] = []
-shown_events (c ∷ cs) = event_text c ++ spaced_events cs
+shown_events = parted (codes " ") event_text
 
 -- the last token: its place, its length and its codes, as they are shown
 abbrev pub last_line : (List ℕ → List ℕ) → ℕ → ℕ → List ℕ → List ℕ
-last_line shown place length text = span (codes "last") place length ++ (codes " text=" ++ (34 ∷ (shown text ++ (34 ∷ 10 ∷ []))))
+last_line shown place length text = span (codes "last") place length (codes " text=" ++ (34 ∷ (shown text ++ (34 ∷ 10 ∷ []))))
 
 abbrev pub feed_line : Bool → List ℕ
 feed_line true = codes "feed worked=yes" ++ (10 ∷ [])
 feed_line false = codes "feed worked=no" ++ (10 ∷ [])
 
 abbrev pub refused_line : Told → List ℕ
-refused_line told =
-    codes "refused number=" ++ (decimal told.number ++ (codes " layer=" ++ (decimal told.layer ++ (codes " place=" ++ (decimal told.place ++ numbered (codes " count=") told.count)))))
+refused_line told = codes "refused " ++ (told_text told ++ (10 ∷ []))
 
 -- the report of a malformed line
 abbrev pub malformed_line : ℕ → Expected → List ℕ

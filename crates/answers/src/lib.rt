@@ -2,11 +2,11 @@
 #![tactic(auto)]
 
 mod answers;
-mod bytes;
-mod events;
 mod rules;
+mod shown;
 
 pub use answers::{
     changed, cursor, edition, fed, finished, kind, last, last_events, malformed, new_reader, note,
     read, refused, tally, token, walk,
 };
+pub use shown::Shown;

@@ -1,11 +1,72 @@
 // Rules that a text met, and their kinds.
-ghost use Rattle.std.specs.Prelude.{◌≡◌, ◌++◌, Some, string_bytes, decimal, OnOk};
-ghost use Rattle.answers.specs.Texts.{kind_text, members, listed, met};
+ghost use Rattle.std.specs.Prelude.{◌≡◌, ℕ, List, Some, decimal};
+ghost use Rattle.answers.specs.Texts.{kind_text, listed, members, met};
 
 use books::Book;
 use states::Rules;
-use std::alloc::AllocError;
 use std::fmt;
+
+// Rules, and the kind of each.
+#[derive(Drop)]
+pub(crate) struct Met<'b, B> {
+    pub(crate) book: &'b B,
+    pub(crate) rules: Rules,
+}
+
+impl<B: Book> fmt::Display for Met<'_, B> {
+    ghost output = { λ m. Some (met (B.Book.model m.book.now).meaning.kind m.rules) };
+
+    #[tactic(auto, unfolding(crate::specs::Texts::met))]
+    fn fmt<W: fmt::Write>(&self, f: &mut fmt::Formatter<W>) -> fmt::Result {
+        let rules = Listed {
+            rules: self.rules,
+            item: Number,
+        };
+        let kinds = Listed {
+            rules: self.rules,
+            item: KindIn(self.book),
+        };
+        write!(f, "rules={rules} kinds={kinds}")
+    }
+}
+
+// What a list has of each rule.
+trait Item {
+    type Text: fmt::Display + Drop;
+
+    ghost text: { Self → ℕ → List ℕ };
+
+    fn of(&self, rule: u8) -> Self::Text
+        ensures { Self.Text.output result ≡ Some (text self.now rule) };
+}
+
+// The rule's number.
+#[derive(Clone, Copy)]
+struct Number;
+
+impl Item for Number {
+    type Text = u8;
+
+    ghost text = { λ _ n. decimal n };
+
+    fn of(&self, rule: u8) -> u8 {
+        rule
+    }
+}
+
+// The rule's kind in a book.
+#[derive(Drop)]
+struct KindIn<'b, B>(&'b B);
+
+impl<B: Book> Item for KindIn<'_, B> {
+    type Text = KindText;
+
+    ghost text = { λ k n. kind_text ((B.Book.model k.0.now).meaning.kind n) };
+
+    fn of(&self, rule: u8) -> KindText {
+        KindText(self.0.kind(u32::from(rule)))
+    }
+}
 
 // A rule's kind, or a dash where the rule is not in force.
 #[derive(Clone, Copy)]
@@ -22,44 +83,27 @@ impl fmt::Display for KindText {
     }
 }
 
-// Rules, and the kind of each.
-pub(crate) fn write_met<B: Book>(out: &mut String, book: &B, rules: Rules) -> Result<(), AllocError>
-    ensures { OnOk result (string_bytes out.new ≡ string_bytes out.old ++ met (B.Book.model book.now).meaning.kind rules) }
-{
-    write!(out, "rules=")?;
-    write_rules(out, rules)?;
-    write!(out, " kinds=")?;
-    write_kinds(out, book, rules)
+// The items of rules in rising order, with commas between them, or a dash where there is no rule.
+#[derive(Drop)]
+struct Listed<I> {
+    rules: Rules,
+    item: I,
 }
 
-// The numbers of rules, with commas between them, or a dash.
-fn write_rules(out: &mut String, rules: Rules) -> Result<(), AllocError>
-    ensures { OnOk result (string_bytes out.new ≡ string_bytes out.old ++ listed decimal (members rules)) }
-{
-    let mut rest = rules;
-    let Some(first) = rest.pop_lowest() else {
-        return write!(out, "-");
-    };
-    write!(out, "{first}")?;
-    while let Some(rule) = rest.pop_lowest() {
-        write!(out, ",{rule}")?;
-    }
-    Ok(())
-}
+impl<I: Item> fmt::Display for Listed<I> {
+    ghost output = { λ l. Some (listed (I.text l.item) (members l.rules)) };
 
-// The kinds of rules, in the order of their numbers, with commas between them, or a dash.
-fn write_kinds<B: Book>(out: &mut String, book: &B, rules: Rules) -> Result<(), AllocError>
-    ensures { OnOk result (string_bytes out.new ≡ string_bytes out.old ++ listed (λ n. kind_text ((B.Book.model book.now).meaning.kind n)) (members rules)) }
-{
-    let mut rest = rules;
-    let Some(first) = rest.pop_lowest() else {
-        return write!(out, "-");
-    };
-    let kind = KindText(book.kind(u32::from(first)));
-    write!(out, "{kind}")?;
-    while let Some(rule) = rest.pop_lowest() {
-        let kind = KindText(book.kind(u32::from(rule)));
-        write!(out, ",{kind}")?;
+    fn fmt<W: fmt::Write>(&self, f: &mut fmt::Formatter<W>) -> fmt::Result {
+        let mut rest = self.rules;
+        let Some(lowest) = rest.pop_lowest() else {
+            return write!(f, "-");
+        };
+        let first = self.item.of(lowest);
+        write!(f, "{first}")?;
+        while let Some(rule) = rest.pop_lowest() {
+            let next = self.item.of(rule);
+            write!(f, ",{next}")?;
+        }
+        Ok(())
     }
-    Ok(())
 }

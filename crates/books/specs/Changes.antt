@@ -1,10 +1,10 @@
 -- What adding and deleting a rule do to a book's meaning.
-use Rattle.std.specs.Prelude.{◌≡◌, ℕ, true, false, cond, ◌↔◌, is_some, Some, None, Option, ◌≢◌}
-use Rattle.states.specs.declared.state.State.{State}
+use Rattle.std.specs.Prelude.{◌≡◌, ℕ, Bool, true, false, cond, not, ◌↔◌, List, [], ◌∷◌, is_some, Some, None, Option, ◌≢◌, nat_lt}
+use Rattle.states.specs.Sets.{State}
 use Rattle.states.specs.Sets.{has}
 use Rattle.books.specs.Meaning.{Meaning, Model, InForce, is, touches}
 use Rattle.books.specs.declared.faults.BookFault.{BookFault}
-use Rattle.books.specs.declared.faults.BookFault.TheVariants.{Absent}
+use Rattle.books.specs.declared.faults.BookFault.TheVariants.{Number, Kind, Taken, Absent}
 
 -- What a change of rule r leaves: the other rules' kinds and positions, and where states without a position of r lead
 -- and what they end.
@@ -39,6 +39,22 @@ pub record Changed (R : Meaning → Meaning → Type 0) (a b : Model) : Type 0 w
   pub note : b.note ≡ a.note
   pub noted : b.noted ≡ a.noted
 
+-- ---- why a change is refused
+
+-- questions with the fault that a no gives: the fault of the first that is answered no
+abbrev pub first_no : List (Bool × BookFault) → Option BookFault
+first_no [] = None
+first_no (q ∷ qs) = cond q.0 (first_no qs) (Some q.1)
+
+-- What every book asks first about a new rule r of kind k, where `now` is the kind that rule r has: is the number below `rules`, is
+-- the kind at most 4,095, is no rule of this number in force?
+abbrev pub new_rule : ℕ → Option ℕ → ℕ → ℕ → List (Bool × BookFault)
+new_rule rules now r k = (nat_lt r rules, Number) ∷ (nat_lt k 4096, Kind) ∷ (not (is_some now), Taken) ∷ []
+
+-- the fault where a rule is not in force, from its kind
+abbrev pub absence : Option ℕ → Option BookFault
+absence now = cond (is_some now) None (Some Absent)
+
 -- a deletion is refused exactly where the rule is not in force
 abbrev pub delete_refusal : Meaning → ℕ → Option BookFault
-delete_refusal m r = cond (is_some (m.kind r)) None (Some Absent)
+delete_refusal m r = absence (m.kind r)

@@ -1,7 +1,7 @@
 -- What a rule book means: rules in force, the positions that each owns, and the states that symbols lead through.
 use Rattle.std.specs.Prelude.{◌≡◌, ℕ, ◌+◌, ◌<◌, min, Bool, true, false, ◌&&◌, is_some, Some, None, Option, ◌==◌}
-use Rattle.states.specs.declared.state.State.{State}
-use Rattle.states.specs.declared.rules.Rules.{Rules}
+use Rattle.states.specs.Sets.{State}
+use Rattle.states.specs.Sets.{Rules}
 use Rattle.states.specs.Words.{some}
 use Rattle.states.specs.Sets.{has, has_rule}
 

@@ -1,7 +1,7 @@
 -- What a text means to a book. A text is a list of codes.
 use Rattle.std.specs.Prelude.{ℕ, List, [], ◌∷◌}
-use Rattle.states.specs.declared.state.State.{State}
-use Rattle.states.specs.declared.rules.Rules.{Rules}
+use Rattle.states.specs.Sets.{State}
+use Rattle.states.specs.Sets.{Rules}
 use Rattle.books.specs.Meaning.{Meaning}
 
 -- the state that a text leads to from s, by a rule for the next state

@@ -2,21 +2,21 @@
 ghost use Rattle.std.specs.Prelude.{◌≡◌};
 ghost use Rattle.books.specs.declared.faults.BookFault.TheVariants.{Command};
 
-// What is wrong with a command of a rule, in the order in which it is looked for.
+// What is wrong with a command of a rule, in the order in which it is looked for, with the number that users are told.
 #[derive(Clone, Copy, PartialEq, Eq, Debug)]
 pub enum Cause {
     // it is none of the eight letters
-    Letter,
+    Letter = 6,
     // its operands are not all there
-    Operands,
+    Operands = 7,
     // a code is above the last one, or low is above high
-    Codes,
+    Codes = 8,
     // fewer expressions wait than it takes
-    TooFew,
+    TooFew = 9,
     // 40 expressions wait already
-    TooMany,
+    TooMany = 10,
     // after the last command there waits not exactly one expression
-    NotOne,
+    NotOne = 11,
 }
 
 // A cause and its offset in the rule: where the command begins, or the rule's length after the last command.

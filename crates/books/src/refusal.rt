@@ -1,9 +1,10 @@
 // Why a call is refused, and what every refusal tells in numbers.
-ghost use Rattle.std.specs.Prelude.{◌≡◌};
-ghost use Rattle.books.specs.Refusals.{told, book_told, cause_number};
+ghost use Rattle.std.specs.Prelude.{◌≡◌, Some};
+ghost use Rattle.books.specs.Refusals.{told, book_told, cause_number, plain, at, told_text};
 ghost use Rattle.books.specs.declared.refusal.Refusal.TheVariants.{Book as OfBook, NoSuchEvent};
 
 use crate::faults::{BookFault, Cause};
+use std::fmt;
 use symbols::OutOfRange;
 
 // Why a reader, or the book below it, refuses a call.
@@ -36,7 +37,8 @@ impl From<OutOfRange> for Refusal {
     }
 }
 
-// A refusal in numbers. The layer is 1 for the reader, 2 for the book, 3 for a command.
+// A refusal in numbers, as users are told it: both its number and its layer (1 for the reader, 2 for the book, 3 for a command)
+// stand as numbers in answers.
 #[derive(Clone, Copy, PartialEq, Eq, Debug)]
 pub struct Told {
     pub number: u8,
@@ -45,42 +47,50 @@ pub struct Told {
     pub count: usize,
 }
 
+impl Told {
+    // A refusal with no place and no count.
+    pub fn plain(number: u8, layer: u8) -> Told
+        ensures { result ≡ plain number layer }
+    {
+        Told::at(number, layer, 0)
+    }
+
+    // A refusal at a place, with no count.
+    pub fn at(number: u8, layer: u8, place: usize) -> Told
+        ensures { result ≡ at number layer place }
+    {
+        Told {
+            number,
+            layer,
+            place,
+            count: 0,
+        }
+    }
+}
+
+impl fmt::Display for Told {
+    ghost output = { λ t. Some (told_text t) };
+
+    fn fmt<W: fmt::Write>(&self, f: &mut fmt::Formatter<W>) -> fmt::Result {
+        let Told {
+            number,
+            layer,
+            place,
+            count,
+        } = *self;
+        write!(
+            f,
+            "number={number} layer={layer} place={place} count={count}"
+        )
+    }
+}
+
 impl Cause {
     // The number of the refusal.
     pub fn number(self) -> u8
         ensures { result ≡ cause_number self }
     {
-        match self {
-            Cause::Letter => 6,
-            Cause::Operands => 7,
-            Cause::Codes => 8,
-            Cause::TooFew => 9,
-            Cause::TooMany => 10,
-            Cause::NotOne => 11,
-        }
-    }
-}
-
-// What a book refuses of itself, and not for a command, is of layer 2 and has no place.
-fn of_book(number: u8) -> Told
-    ensures { result ≡ record { number = number; layer = 2; place = 0; count = 0 } }
-{
-    Told {
-        number,
-        layer: 2,
-        place: 0,
-        count: 0,
-    }
-}
-
-fn of_reader(number: u8) -> Told
-    ensures { result ≡ record { number = number; layer = 1; place = 0; count = 0 } }
-{
-    Told {
-        number,
-        layer: 1,
-        place: 0,
-        count: 0,
+        self as u8
     }
 }
 
@@ -90,18 +100,13 @@ impl BookFault {
         ensures { result ≡ book_told self }
     {
         match self {
-            BookFault::Number => of_book(2),
-            BookFault::Kind => of_book(3),
-            BookFault::Taken => of_book(4),
-            BookFault::Length => of_book(5),
-            BookFault::Command(fault) => Told {
-                number: fault.cause.number(),
-                layer: 3,
-                place: fault.place,
-                count: 0,
-            },
-            BookFault::Full => of_book(12),
-            BookFault::Absent => of_book(13),
+            BookFault::Number => Told::plain(2, 2),
+            BookFault::Kind => Told::plain(3, 2),
+            BookFault::Taken => Told::plain(4, 2),
+            BookFault::Length => Told::plain(5, 2),
+            BookFault::Command(fault) => Told::at(fault.cause.number(), 3, fault.place),
+            BookFault::Full => Told::plain(12, 2),
+            BookFault::Absent => Told::plain(13, 2),
         }
     }
 }
@@ -112,16 +117,14 @@ impl Refusal {
         ensures { result ≡ told self }
     {
         match self {
-            Refusal::LastEdition => of_reader(1),
+            Refusal::LastEdition => Told::plain(1, 1),
             Refusal::Book(fault) => fault.tell(),
             Refusal::NoToken { place, count } => Told {
-                number: 14,
-                layer: 1,
-                place,
                 count,
+                ..Told::at(14, 1, place)
             },
-            Refusal::StaleWalk => of_reader(15),
-            Refusal::NoSuchEvent => of_reader(16),
+            Refusal::StaleWalk => Told::plain(15, 1),
+            Refusal::NoSuchEvent => Told::plain(16, 1),
         }
     }
 }

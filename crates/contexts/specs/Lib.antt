@@ -1,4 +1,3 @@
 -- What commands do to the reader in use.
-pub mod Faults
 pub mod Uses
 pub mod Contexts

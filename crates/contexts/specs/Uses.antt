@@ -1,10 +1,11 @@
 -- What commands do to the reader in use, and the text of their answers.
 use Rattle.std.specs.Prelude.{◌≡◌, ℕ, ◌+◌, ◌-◌, min, Bool, true, false, cond, List, [], ◌∷◌, ◌++◌, length, take, drop, is_some, Some, None, Ok, Err, codes, Option, Result}
 use Rattle.std.specs.Result.{result_err}
-use Rattle.states.specs.declared.rules.Rules.{Rules}
+use Rattle.states.specs.Sets.{Rules}
+use Rattle.books.specs.Meaning.{Model}
 use Rattle.books.specs.Refusals.{told}
 use Rattle.books.specs.declared.refusal.Refusal.{Refusal}
-use Rattle.readings.specs.Views.{View}
+use Rattle.readings.specs.Views.{View, fresh}
 use Rattle.readings.specs.Readings.Reading.{whole, token, peek, feed}
 use Rattle.readings.specs.Readings.Told.{ended}
 use Rattle.readings.specs.Calls.{Call, Does}
@@ -35,13 +36,13 @@ pub record Use : Type 0 where
   pub cursor : Option Marker
   pub walk : Option Walk
 
+-- a new reader, with no cursor and no walk
+abbrev pub new_use : Model → ℕ → Use
+new_use model edition = record { reader = fresh model edition; cursor = None; walk = None }
+
 -- only the reader changes
 abbrev pub with_reader : Use → View → Use
 with_reader u v = record { reader = v; cursor = u.cursor; walk = u.walk }
-
--- what is written behind the text `before` is an answer that R holds of
-abbrev pub Answers : (List ℕ → Type 0) → List ℕ → List ℕ → Type 0
-Answers R before after = (answer : List ℕ) × (after ≡ before ++ answer) × R answer
 
 -- ── Texts ──
 
@@ -198,6 +199,10 @@ Obeys (order.Kind rule) u w answer = Tells (kind_line rule (u.reader.book.meanin
 Obeys order.Tally u w answer = Tells (numbered (codes "tally=") u.reader.tally) u w answer
 Obeys order.Edition u w answer = Tells (numbered (codes "edition=") u.reader.edition) u w answer
 Obeys order.Note u w answer = Tells (numbered (codes "note=") u.reader.book.note) u w answer
+
+-- x is wanted and not there
+abbrev pub Wants : (Use → Option Expected) → Use → Expected → Type 0
+Wants wanted u x = wanted u ≡ Some x
 
 -- what an order wants that is not there, if anything: a cursor, or a walk
 abbrev pub wanting_cursor : Use → Option Expected

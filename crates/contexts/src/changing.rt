@@ -1,12 +1,14 @@
 // Changing the rules of the book in use.
-ghost use Rattle.std.specs.Prelude.{string_bytes, codes, OnOk};
+ghost use Rattle.std.specs.Prelude.{codes};
 ghost use Rattle.books.specs.Changes.{delete_refusal};
 ghost use Rattle.readings.specs.Calls.Call.{add as adding, delete as deleting};
 ghost use Rattle.reader.specs.Answers.{change_refusal};
-ghost use Rattle.contexts.specs.Uses.{Answers, Changes};
+ghost use Rattle.passes.specs.Runs.{Done};
+ghost use Rattle.contexts.specs.Uses.{Changes};
 ghost use Rattle.contexts.specs.Contexts.{use_of};
 
 use crate::context::Context;
+use crate::telling::tell_change;
 use books::ChangingBook;
 use std::alloc::AllocError;
 
@@ -20,27 +22,23 @@ impl<B: ChangingBook> Context<B> {
         bytes: &[u8],
         out: &mut String,
     ) -> Result<(), AllocError>
-        ensures { OnOk result (Answers
+        ensures { Done result use_of
             (Changes word.now rule (adding rule kind bytes.now)
-            (change_refusal self.old.reader.edition (B.ChangingBook.refusal (B.Book.model self.old.reader.book).meaning rule kind bytes.now))
-            (use_of B.Book.model B.Symbol.Symbol.code self.old) (use_of B.Book.model B.Symbol.Symbol.code self.new)) (string_bytes out.old) (string_bytes out.new)) }
+            (change_refusal self.old.reader.edition (B.ChangingBook.refusal (B.Book.model self.old.reader.book).meaning rule kind bytes.now)))
+            self.old self.new out.old out.new }
     {
-        match self.reader.add(rule, kind, bytes) {
-            Ok(edition) => answers::changed(out, word, rule, edition),
-            Err(refusal) => answers::refused(out, refusal.tell()),
-        }
+        let changed = self.reader.add(rule, kind, bytes);
+        tell_change(out, word, rule, changed)
     }
 
     // Deletes a rule.
     pub fn delete(&mut self, rule: u32, out: &mut String) -> Result<(), AllocError>
-        ensures { OnOk result (Answers
+        ensures { Done result use_of
             (Changes (codes "delete") rule (deleting rule)
-            (change_refusal self.old.reader.edition (delete_refusal (B.Book.model self.old.reader.book).meaning rule))
-            (use_of B.Book.model B.Symbol.Symbol.code self.old) (use_of B.Book.model B.Symbol.Symbol.code self.new)) (string_bytes out.old) (string_bytes out.new)) }
+            (change_refusal self.old.reader.edition (delete_refusal (B.Book.model self.old.reader.book).meaning rule)))
+            self.old self.new out.old out.new }
     {
-        match self.reader.delete(rule) {
-            Ok(edition) => answers::changed(out, "delete", rule, edition),
-            Err(refusal) => answers::refused(out, refusal.tell()),
-        }
+        let changed = self.reader.delete(rule);
+        tell_change(out, "delete", rule, changed)
     }
 }

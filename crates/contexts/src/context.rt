@@ -4,7 +4,8 @@ ghost use Rattle.std.specs.Prelude.{◌≤◌, vec_len};
 use books::Book;
 use reader::{Reader, Walk};
 
-// A text, a place in it, and where its last token begins and ends.
+// A text, a place in it, and where its last token begins and ends. It owns its text, and a reader's cursor is made over it
+// for each call: no struct can hold both a text and a cursor that borrows it.
 #[derive(Drop)]
 pub(crate) struct Track<S> {
     pub(crate) text: Vec<S>,

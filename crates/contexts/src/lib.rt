@@ -4,12 +4,12 @@
 
 mod changing;
 mod context;
-mod fault;
 mod making;
 mod obeying;
 mod reading;
 mod taking;
+mod telling;
 mod walking;
 
 pub use context::Context;
-pub use fault::Fault;
+pub use passes::Fault;

@@ -1,19 +1,16 @@
 // Commands that take no text and change no rule.
-ghost use Rattle.std.specs.Prelude.{string_bytes, MatchResult};
-ghost use Rattle.contexts.specs.Faults.{Wants};
-ghost use Rattle.contexts.specs.Uses.{Answers, Obeys, wanting};
+ghost use Rattle.passes.specs.Runs.{Ran};
+ghost use Rattle.contexts.specs.Uses.{Obeys, Wants, wanting};
 ghost use Rattle.contexts.specs.Contexts.{use_of};
 
 use crate::context::Context;
-use crate::fault::Fault;
-use books::{Book, Noted};
+use books::Noted;
 use lines::Order;
+use passes::Fault;
 
 impl<B: Noted> Context<B> {
     pub fn obey(&mut self, order: Order, out: &mut String) -> Result<(), Fault>
-        ensures { MatchResult result
-            (λ _. Answers (Obeys order (use_of B.Book.model B.Symbol.Symbol.code self.old) (use_of B.Book.model B.Symbol.Symbol.code self.new)) (string_bytes out.old) (string_bytes out.new))
-            (λ f. Wants (wanting order (use_of B.Book.model B.Symbol.Symbol.code self.old)) f self.old self.new (string_bytes out.old) (string_bytes out.new)) }
+        ensures { Ran result use_of (Obeys order) (Wants (wanting order)) self.old self.new out.old out.new }
     {
         match order {
             Order::Token => self.token(out),

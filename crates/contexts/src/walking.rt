@@ -1,19 +1,19 @@
 // The walk that commands work on.
-ghost use Rattle.std.specs.Prelude.{◌≡◌, true, false, map, string_bytes, MatchResult, OnOk};
-ghost use Rattle.contexts.specs.Faults.{Wants};
-ghost use Rattle.contexts.specs.Uses.{Answers, Begins, Feeds, FeedsNext, Finishes, wanting, wanting_walk};
+ghost use Rattle.std.specs.Prelude.{◌≡◌, true, false, map, string_bytes, MatchResult};
+ghost use Rattle.passes.specs.Runs.{Answers, Done, Misses, Ran};
+ghost use Rattle.contexts.specs.Uses.{Begins, Feeds, FeedsNext, Finishes, Wants, wanting_walk};
 ghost use Rattle.contexts.specs.Contexts.{use_of};
 
 use crate::context::Context;
-use crate::fault::Fault;
 use books::Book;
-use lines::{Expected, Order};
+use lines::Expected;
+use passes::Fault;
 use std::alloc::AllocError;
 
 impl<B: Book> Context<B> {
     // Begins a walk in the place of the one in use.
     pub(crate) fn begin(&mut self, out: &mut String) -> Result<(), AllocError>
-        ensures { OnOk result (Answers (Begins (use_of B.Book.model B.Symbol.Symbol.code self.old) (use_of B.Book.model B.Symbol.Symbol.code self.new)) (string_bytes out.old) (string_bytes out.new)) }
+        ensures { Done result use_of Begins self.old self.new out.old out.new }
     {
         let walk = self.reader.begin();
         let edition = self.reader.edition();
@@ -23,9 +23,7 @@ impl<B: Book> Context<B> {
 
     // Feeds the walk with symbols in turn, until the first refusal.
     pub(crate) fn feed(&mut self, text: &[B::Symbol], out: &mut String) -> Result<(), Fault>
-        ensures { MatchResult result
-            (λ _. Answers (Feeds (map B.Symbol.Symbol.code text.now) (use_of B.Book.model B.Symbol.Symbol.code self.old) (use_of B.Book.model B.Symbol.Symbol.code self.new)) (string_bytes out.old) (string_bytes out.new))
-            (λ f. Wants (wanting_walk (use_of B.Book.model B.Symbol.Symbol.code self.old)) f self.old self.new (string_bytes out.old) (string_bytes out.new)) }
+        ensures { Ran result use_of (Feeds (map B.Symbol.Symbol.code text.now)) (Wants wanting_walk) self.old self.new out.old out.new }
     {
         if self.walk.is_none() {
             return Err(Fault::Malformed(Expected::Walk));
@@ -41,12 +39,10 @@ impl<B: Book> Context<B> {
     // Feeds the walk with one symbol, and says whether it went on.
     fn feed_next(&mut self, symbol: B::Symbol, out: &mut String) -> Result<bool, Fault>
         ensures { MatchResult result
-            (λ on. Answers (FeedsNext (B.Symbol.Symbol.code symbol) on (use_of B.Book.model B.Symbol.Symbol.code self.old) (use_of B.Book.model B.Symbol.Symbol.code self.new)) (string_bytes out.old) (string_bytes out.new))
-            (λ f. Wants (wanting_walk (use_of B.Book.model B.Symbol.Symbol.code self.old)) f self.old self.new (string_bytes out.old) (string_bytes out.new)) }
+            (λ on. Answers (FeedsNext (B.Symbol.Symbol.code symbol) on (use_of self.old) (use_of self.new)) (string_bytes out.old) (string_bytes out.new))
+            (λ f. Misses (Wants wanting_walk (use_of self.old)) f self.old self.new (string_bytes out.old) (string_bytes out.new)) }
     {
-        let Some(walk) = self.walk.take() else {
-            return Err(Fault::Malformed(Expected::Walk));
-        };
+        let walk = self.walk.take().ok_or(Expected::Walk)?;
         match self.reader.feed(walk, symbol) {
             Ok(fed) => {
                 self.walk = Some(fed.walk);
@@ -63,13 +59,9 @@ impl<B: Book> Context<B> {
 
     // Finishes the walk, which is gone then, unless it is refused.
     pub(crate) fn finish(&mut self, out: &mut String) -> Result<(), Fault>
-        ensures { MatchResult result
-            (λ _. Answers (Finishes (use_of B.Book.model B.Symbol.Symbol.code self.old) (use_of B.Book.model B.Symbol.Symbol.code self.new)) (string_bytes out.old) (string_bytes out.new))
-            (λ f. Wants (wanting Order.Finish (use_of B.Book.model B.Symbol.Symbol.code self.old)) f self.old self.new (string_bytes out.old) (string_bytes out.new)) }
+        ensures { Ran result use_of Finishes (Wants wanting_walk) self.old self.new out.old out.new }
     {
-        let Some(walk) = self.walk.take() else {
-            return Err(Fault::Malformed(Expected::Walk));
-        };
+        let walk = self.walk.take().ok_or(Expected::Walk)?;
         match self.reader.finish(walk) {
             Ok(rules) => Ok(answers::finished(out, self.reader.book(), rules)?),
             Err(back) => {

@@ -1,1 +1,1 @@
-mod Splitting
+mod Naming

@@ -1,21 +1,12 @@
 -- Texts of events: words of a machine, a point and a kind, with a space between them.
-use Rattle.std.specs.Prelude.{◌≡◌, ℕ, ◌+◌, ◌*◌, ◌≤◌, Bool, true, false, cond, List, [], ◌∷◌, ◌++◌, map, Ok, Err, vec_items, Result, Vec, ◌==◌}
-use Rattle.std.specs.List.{AllByRecursion}
+use Rattle.std.specs.Prelude.{◌≡◌, ℕ, ◌+◌, ◌*◌, ◌≤◌, List, [], ◌∷◌, ◌++◌, map, Ok, Err, vec_items, Result, Vec, ◌==◌}
+use Rattle.std.specs.List.{AllByRecursion, slice_split}
 use Rattle.std.specs.declared.alloc.Global.{Global}
 use Rattle.symbols.specs.declared.event.Event.{Event}
 use Rattle.lines.specs.Numerals.{Number}
+use Rattle.event_words.specs.declared.words.Name.{Name}
 use Rattle.event_words.specs.declared.words.NoEvents.{NoEvents}
 use Rattle.event_words.specs.declared.words.NoEvents.TheVariants.{Malformed, OutOfRange, NoMemory}
-
--- b goes before the first of the parts
-abbrev pub before : ℕ → List (List ℕ) → List (List ℕ)
-before b [] = (b ∷ []) ∷ []
-before b (w ∷ ws) = (b ∷ w) ∷ ws
-
--- the parts of a text between marks
-abbrev pub split : ℕ → List ℕ → List (List ℕ)
-split mark [] = [] ∷ []
-split mark (b ∷ bs) = cond (b == mark) ([] ∷ split mark bs) (before b (split mark bs))
 
 -- a machine and a kind as they stand in a word
 pub record Named : Type 0 where
@@ -33,10 +24,10 @@ NamesEach [] (n ∷ ns) = ⊥
 NamesEach (w ∷ ws) [] = ⊥
 NamesEach (w ∷ ws) (n ∷ ns) = Names w n × NamesEach ws ns
 
--- the words of a text; the empty text has none
+-- the words of a text, with a space between them; the empty text has none
 abbrev pub words : List ℕ → List (List ℕ)
 words [] = []
-words (b ∷ bs) = split 32 (b ∷ bs)
+words (b ∷ bs) = slice_split (λ c. c == 32) (b ∷ bs)
 
 -- there is such an event
 abbrev pub InRange : Named → Type 0
@@ -55,10 +46,13 @@ Spells text (Err Malformed) = (ns : List Named) → NamesEach (words text) ns �
 Spells text (Err OutOfRange) = (ns : List Named) × NamesEach (words text) ns × (AllByRecursion InRange ns → ⊥)
 Spells text (Err NoMemory) = Unit {0}
 
--- what taking one word more answers, which turns the events before into those after
-abbrev pub Takes : List ℕ → List Event → List Event → Result Bool NoEvents → Type 0
-Takes word es fs (Ok true) = (n : Named) × (e : Event) × Names word n × InRange n × (event_code e ≡ named_code n) × (fs ≡ es ++ (e ∷ []))
-Takes word es fs (Ok false) = (n : Named) × Names word n × (InRange n → ⊥) × (fs ≡ es)
-Takes word es fs (Err Malformed) = (n : Named) → Names word n → ⊥
-Takes word es fs (Err OutOfRange) = ⊥
-Takes word es fs (Err NoMemory) = Unit {0}
+-- what a name that was read says
+abbrev pub named : Name → Named
+named n = record { machine = n.machine; kind = n.kind }
+
+-- what reading the machine and the kind of each word of a text answers
+abbrev pub NamesWords : List ℕ → Result (Vec Name Global) NoEvents → Type 0
+NamesWords text (Ok v) = NamesEach (words text) (map named (vec_items v))
+NamesWords text (Err Malformed) = (ns : List Named) → NamesEach (words text) ns → ⊥
+NamesWords text (Err OutOfRange) = ⊥
+NamesWords text (Err NoMemory) = Unit {0}

@@ -1,7 +1,7 @@
 // Events as words of a text.
-ghost use Rattle.std.specs.Prelude.{◌≡◌, [], ◌∷◌, ◌++◌, MatchOption};
-ghost use Rattle.event_words.specs.Words.{Named, Names, Spells, Takes};
-ghost use Rattle.event_words.specs.declared.words.NoEvents.TheVariants.{NoMemory};
+ghost use Rattle.std.specs.Prelude.{◌≡◌, MatchOption};
+ghost use Rattle.event_words.specs.Words.{Named, Names, NamesWords, Spells, named};
+ghost use Rattle.event_words.specs.declared.words.NoEvents.TheVariants.{NoMemory, OutOfRange};
 
 use lines::{Parted, part, saturated};
 use std::alloc::{AllocFailed, Global};
@@ -21,6 +21,14 @@ pub enum NoEvents {
     NoMemory,
 }
 
+impl From<symbols::OutOfRange> for NoEvents {
+    ghost from_gives = { λ _ r. r ≡ OutOfRange };
+
+    fn from(_refused: symbols::OutOfRange) -> NoEvents {
+        NoEvents::OutOfRange
+    }
+}
+
 impl<T: Drop> From<AllocFailed<T>> for NoEvents {
     ghost from_gives = { λ _ r. r ≡ NoMemory };
 
@@ -36,53 +44,39 @@ struct Name {
     kind: u32,
 }
 
-// The events that the words of a text name.
+// The events that the words of a text name. A malformed word is told before a machine or a kind out of range, wherever
+// they stand, so that all words are read before the first event is made.
 pub fn events_of(heap: Global, text: &[u8]) -> Result<Vec<Event>, NoEvents>
     ensures { Spells text.now result }
 {
+    let names = names_of(heap, text)?;
     let mut events = Vec::new(heap);
-    let mut all = true;
-    let mut rest = if text.is_empty() { None } else { Some(text) };
-    while let Some(words) = rest {
-        let Parted { first, rest: more } = part(words, SPACE);
-        let here = take_word(&mut events, first)?;
-        all = all & here;
-        rest = more;
+    for name in &names {
+        events.push(Event::new(name.machine, name.kind)?)?;
     }
-    if all {
-        Ok(events)
-    } else {
-        Err(NoEvents::OutOfRange)
-    }
+    Ok(events)
 }
 
-// Appends the event that a word names, and says whether it is there.
-fn take_word(events: &mut Vec<Event>, word: &[u8]) -> Result<bool, NoEvents>
-    ensures { Takes word.now events.old.items events.new.items result }
+// The machine and the kind of each word.
+fn names_of(heap: Global, text: &[u8]) -> Result<Vec<Name>, NoEvents>
+    ensures { NamesWords text.now result }
 {
-    let Some(name) = name_of(word) else {
-        return Err(NoEvents::Malformed);
-    };
-    let Ok(event) = Event::new(name.machine, name.kind) else {
-        return Ok(false);
-    };
-    events.push(event)?;
-    Ok(true)
+    let mut names = Vec::new(heap);
+    if text.is_empty() {
+        return Ok(names);
+    }
+    for word in text.split(|byte| *byte == SPACE) {
+        names.push(name_of(word).ok_or(NoEvents::Malformed)?)?;
+    }
+    Ok(names)
 }
 
 // The machine and the kind that a word names, if it names them.
 fn name_of(word: &[u8]) -> Option<Name>
-    ensures { MatchOption result ((n : Named) → Names word.now n → ⊥) (λ n. Names word.now (record { machine = n.machine; kind = n.kind })) }
+    ensures { MatchOption result ((n : Named) → Names word.now n → ⊥) (λ n. Names word.now (named n)) }
 {
     let Parted { first, rest } = part(word, POINT);
-    let Some(digits) = rest else {
-        return None;
-    };
-    let Ok(machine) = saturated(first) else {
-        return None;
-    };
-    let Ok(kind) = saturated(digits) else {
-        return None;
-    };
+    let machine = saturated(first).ok()?;
+    let kind = saturated(rest?).ok()?;
     Some(Name { machine, kind })
 }

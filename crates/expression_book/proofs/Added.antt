@@ -2,8 +2,7 @@
 use Rattle.std.proofs.Common.{◌≡◌, ℕ, ◌<◌, Bool, true, false, cond, not, ◌⊎◌, ◌↔◌, List, [], ◌∷◌, get_or, is_some as option_is_some, Some, None, Decides, Option, sym, refl, ap, ◌∙◌, inl, inr}
 use Rattle.std.proofs.lemmas.List.{get_or-set_other}
 use Rattle.std.proofs.lemmas.Bool.{cases_Bool, both_ways, and_parts, and_from, and_cases, not-true, not-false}
-use Rattle.states.specs.declared.state.State.{State}
-use Rattle.states.specs.Sets.{has, has_rule, size}
+use Rattle.states.specs.Sets.{State, has, has_rule, size}
 use Rattle.states.proofs.Digits.{tally_same}
 use Rattle.states.proofs.Members.{member_below}
 use Rattle.books.specs.Changes.{Added}
@@ -44,11 +43,11 @@ live_size t = tally_same (λ p. option_is_some ((table_meaning t).owner p)) (has
 
 -- ---- a rule put in force
 
-module _ (r k : ℕ) (e : Plain) (a b : Table) (low : r < 64) (free : get_or a.kinds r None ≡ None) (puts : Puts r k e a b) where
+module _ (r k : ℕ) (e : Plain) (a b : Table) (low : r < 64) (free : get_or a.kinds.by_rule r None ≡ None) (puts : Puts r k e a b) where
   whole : Labelled
   whole = followed_by puts.body puts.end
 
-  put_kind : get_or b.kinds r None ≡ Some k
+  put_kind : get_or b.kinds.by_rule r None ≡ Some k
   put_kind = ap (λ (ks : List (Option ℕ)). get_or ks r None) puts.kinds ∙ kind_here a r (Some k) low
 
   -- r owned nothing before
@@ -90,7 +89,7 @@ module _ (r k : ℕ) (e : Plain) (a b : Table) (low : r < 64) (free : get_or a.k
   pub add_alike : Alike r a b
   unfolding whole
   add_alike = record {
-    kinds = λ q d. ap (λ (ks : List (Option ℕ)). get_or ks q None) puts.kinds ∙ get_or-set_other a.kinds r q (Some k) None d;
+    kinds = λ q d. ap (λ (ks : List (Option ℕ)). get_or ks q None) puts.kinds ∙ get_or-set_other a.kinds.by_rule r q (Some k) None d;
     freed = λ p h n. absurd (both_ways _ (none_owned p) h);
     fresh = λ p h n. (taken_fresh p ((owned_by p).0 h)).1;
     same = λ p x n. let off : taken a b p ≡ false = fails (taken a b p) (owns b r p) (owned_by p).1 n in

@@ -2,8 +2,7 @@
 use Rattle.std.proofs.Common.{◌≡◌, ℕ, Bool, true, false, cond, ◌&&◌, List, [], ◌∷◌, get_or, Some, None, sym, ap, ◌∙◌, ap₂, inl, inr}
 use Rattle.std.proofs.lemmas.Bool.{cases_Bool, both_ways, and_parts}
 use Rattle.std.proofs.lemmas.Bool.Decides.{same_from_decides}
-use Rattle.states.specs.declared.state.State.{State}
-use Rattle.states.specs.Sets.{has, has_rule}
+use Rattle.states.specs.Sets.{State, has, has_rule}
 use Rattle.states.proofs.Members.{same_members, same_rules}
 use Rattle.books.specs.Meaning.{touches}
 use Rattle.books.specs.Changes.{Elsewhere}
@@ -23,7 +22,7 @@ pub record Same (a b : Table) (p : ℕ) : Type 0 where
 
 -- the tables hold the same but for rule r, whose positions in one are not live in the other, unless they are r's there too
 pub record Alike (r : ℕ) (a b : Table) : Type 0 where
-  pub kinds : (q : ℕ) → (q ≡ r → ⊥) → get_or b.kinds q None ≡ get_or a.kinds q None
+  pub kinds : (q : ℕ) → (q ≡ r → ⊥) → get_or b.kinds.by_rule q None ≡ get_or a.kinds.by_rule q None
   pub freed : (p : ℕ) → owns a r p ≡ true → owns b r p ≡ false → has b.live p ≡ false
   pub fresh : (p : ℕ) → owns b r p ≡ true → owns a r p ≡ false → has a.live p ≡ false
   pub same : (p : ℕ) → owns a r p ≡ false → owns b r p ≡ false → Same a b p

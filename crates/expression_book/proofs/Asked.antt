@@ -1,7 +1,10 @@
 -- The questions about an adding: what a yes to all of them tells. Assumes nothing.
-use Rattle.std.proofs.Common.{◌≡◌, ℕ, ◌+◌, ◌<◌, ◌≤◌, Bool, true, false, cond, leb, ◌↔◌, List, length, is_some, Some, None, Ok, Err, Option, Result, sym, refl, ap, ◌∙◌, arith}
+use Rattle.std.proofs.Common.{◌≡◌, ℕ, ◌+◌, ◌<◌, ◌≤◌, Bool, true, false, cond, not, leb, ltb, ◌↔◌, List, length, is_some, Some, None, Ok, Err, Option, Result, sym, refl, ap, ap₂, ◌∙◌, arith}
 use Rattle.std.proofs.lemmas.Bool.{leb-true, le-leb, lt-leb, both_ways}
+use Rattle.std.specs.Option.{option_or}
+use Rattle.std.proofs.lemmas.Bool.Decides.{nat_tests}
 use Rattle.books.specs.Meaning.{Meaning}
+use Rattle.books.specs.Changes.{first_no, new_rule}
 use Rattle.books.specs.declared.faults.BookFault.{BookFault}
 use Rattle.books.specs.declared.faults.BookFault.TheVariants.{Number, Kind, Taken, Length, Full}
 use Rattle.books.specs.declared.faults.CommandFault.{CommandFault}
@@ -10,16 +13,38 @@ use Rattle.expressions.specs.Commands.{read_all, counted, Accepted}
 use Rattle.expressions.specs.Rules.{live, needed, room_for, refusal}
 use Rattle.expressions.proofs.Runs.{accepted_right}
 
--- every question about the call itself gets a yes
-pub all_asked : (last : ℕ) (m : Meaning) (r k : ℕ) (bytes : List ℕ) (s : Result ℕ CommandFault) → r ≤ 63 → k ≤ 4095 → is_some (m.kind r) ≡ false → length bytes ≤ 1024
-    → s ≡ counted (read_all last bytes) → room_for m s ≡ refusal last m r k bytes
-all_asked last m r k bytes s number kind free short is =
-    let inner = room_for m (counted (read_all last bytes)) in
-    ap (room_for m) is
-    ∙ sym (ap (λ (x : Bool). cond x (cond (leb k 4095) (cond (is_some (m.kind r)) (Some Taken) (cond (leb (length bytes) 1024) inner (Some Length))) (Some Kind)) (Some Number)) (le-leb r 63 number)
-    ∙ ap (λ (x : Bool). cond x (cond (is_some (m.kind r)) (Some Taken) (cond (leb (length bytes) 1024) inner (Some Length))) (Some Kind)) (le-leb k 4095 kind)
-    ∙ ap (λ (x : Bool). cond x (Some Taken) (cond (leb (length bytes) 1024) inner (Some Length))) free
-    ∙ ap (λ (x : Bool). cond x inner (Some Length)) (le-leb (length bytes) 1024 short))
+-- below the next number is up to it
+up_to : (r n : ℕ) → ltb r (n + 1) ≡ leb r n
+up_to r n = grind (arith, nat_tests)
+
+-- the questions that every book asks come first
+first_asked : (last : ℕ) (m : Meaning) (r k : ℕ) (bytes : List ℕ) →
+    refusal last m r k bytes ≡ option_or (first_no (new_rule 64 (m.kind r) r k)) (cond (leb (length bytes) 1024) (room_for m (counted (read_all last bytes))) (Some Length))
+first_asked last m r k bytes =
+    let later = cond (leb (length bytes) 1024) (room_for m (counted (read_all last bytes))) (Some Length) in
+    ap₂ (λ (x y : Bool). cond x (cond y (cond (is_some (m.kind r)) (Some Taken) later) (Some Kind)) (Some Number)) (sym (up_to r 63)) (sym (up_to k 4095))
+    ∙ by (ltb r 64) (ltb k 4096) (is_some (m.kind r)) later
+  where
+    by : (x y z : Bool) (later : Option BookFault) → cond x (cond y (cond z (Some Taken) later) (Some Kind)) (Some Number)
+        ≡ option_or (cond x (cond y (cond (not z) None (Some Taken)) (Some Kind)) (Some Number)) later
+    by true true true later = refl
+    by true true false later = refl
+    by true false z later = refl
+    by false y z later = refl
+
+-- and the others where these get a yes
+pub new_asked : (last : ℕ) (m : Meaning) (r k : ℕ) (bytes : List ℕ) (o : Option BookFault) → None ≡ first_no (new_rule 64 (m.kind r) r k)
+    → o ≡ cond (leb (length bytes) 1024) (room_for m (counted (read_all last bytes))) (Some Length) → o ≡ refusal last m r k bytes
+new_asked last m r k bytes o e is =
+    is
+    ∙ sym (first_asked last m r k bytes
+    ∙ ap (λ (x : Option BookFault). option_or x (cond (leb (length bytes) 1024) (room_for m (counted (read_all last bytes))) (Some Length))) (sym e))
+
+-- where the bytes are not too many, and the commands were counted
+pub counted_asked : (last : ℕ) (m : Meaning) (bytes : List ℕ) (s : Result ℕ CommandFault) → length bytes ≤ 1024 → s ≡ counted (read_all last bytes)
+    → room_for m s ≡ cond (leb (length bytes) 1024) (room_for m (counted (read_all last bytes))) (Some Length)
+counted_asked last m bytes s short is =
+    ap (room_for m) is ∙ sym (ap (λ (x : Bool). cond x (room_for m (counted (read_all last bytes))) (Some Length)) (le-leb (length bytes) 1024 short))
 
 -- there is room for so many symbols and the end, or there is none
 pub room_yes : (m : Meaning) (n : ℕ) → live m + needed n ≤ 256 → room_for m (Ok n) ≡ None

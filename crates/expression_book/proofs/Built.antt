@@ -1,10 +1,11 @@
 -- Each command keeps what is true between two commands. Assumes nothing.
 use Rattle.std.proofs.Common.{◌≡◌, ℕ, Bool, true, false, not, ◌&&◌, ◌||◌, eqb, ◌⊎◌, List, [], ◌∷◌, map, sym, refl, ap, ◌∙◌, ap₂, inl, inr}
 use Rattle.std.proofs.lemmas.Bool.{cases_eq, cases_Bool, both_ways, and_from, and_left, and_right, eq-eqb, ne_eqb, or_left, or_right}
-use Rattle.states.specs.declared.state.State.{State}
-use Rattle.states.specs.Sets.{has}
+use Rattle.states.specs.Sets.{State, has}
 use Rattle.states.proofs.Members.{has_nothing}
 use Rattle.expressions.specs.Expression.{empty, symbol, join, either, star, plus, optional, Labelled, Plain, plain}
+use Rattle.expressions.specs.declared.code_range.CodeRange.{CodeRange}
+use Rattle.expressions.specs.CodeRange.{contains}
 use Rattle.expressions.specs.Positions.{Owns}
 use Rattle.expressions.proofs.Owned.{last_owned}
 use Rattle.expression_book.specs.declared.part.Part.{Part}
@@ -14,8 +15,8 @@ use Rattle.expression_book.specs.Rows.{row, takes}
 use Rattle.expression_book.specs.Parts.{Shows}
 use Rattle.expression_book.specs.Building.{Holds, Gives, Links, AllShow, Separate, Tabled, taken, Beside, Building}
 use Rattle.expression_book.specs.Laws.{or_false, rule_at, follows_at}
-use Rattle.expression_book.proofs.Grown.{link_rule, link_low, link_high, link_follow}
-use Rattle.expression_book.proofs.Pieces.{tabled_at, linked, ranged, tabled_empty, tabled_symbol, tabled_join, tabled_either, tabled_star, tabled_plus, tabled_optional, separate_symbol, separate_two}
+use Rattle.expression_book.proofs.Grown.{link_rule, link_codes, link_follow}
+use Rattle.expression_book.proofs.Pieces.{tabled_at, linked, tabled_empty, tabled_symbol, tabled_join, tabled_either, tabled_star, tabled_plus, tabled_optional, separate_symbol, separate_two}
 
 pub holds_both : (a b c : Table) → Holds a b → Holds b c → Holds a c
 holds_both a b c f g = record { kinds = g.kinds ∙ f.kinds; start = g.start ∙ f.start; ends = g.ends ∙ f.ends; note = g.note ∙ f.note }
@@ -50,7 +51,7 @@ module _ (a : Table) (r : ℕ) (t t' : Table) (L I : State) (links : Links L I t
   same_codes : (p c : ℕ) → codes_new a t' p c ≡ codes_new a t p c
   same_codes p c =
       ap₂ (λ (x y : Bool). x && y) (same_taken p)
-      (ap₂ (λ (lo hi : ℕ). ranged lo hi c) (link_low t t'.rows L I links.linked links.kept p) (link_high t t'.rows L I links.linked links.kept p))
+      (ap (λ (k : CodeRange). contains k c) (link_codes t t'.rows L I links.linked links.kept p))
 
   pub link_rows : (es : List Labelled) → Tabled (taken a t) (linked (follows_new a t) (has L) (has I)) (codes_new a t) es → Rows a t' es
   link_rows es =
@@ -71,7 +72,7 @@ module _ (a : Table) (r : ℕ) (t t' : Table) (L I : State) (links : Links L I t
 
 -- ---- a position given
 
-module _ (a : Table) (r low high at : ℕ) (t t' : Table) (gives : Gives r low high at t t') (b : Beside a r t) where
+module _ (a : Table) (r : ℕ) (codes : CodeRange) (at : ℕ) (t t' : Table) (gives : Gives r codes at t t') (b : Beside a r t) where
   -- the position was not taken before, nor live at first
   not_live : has a.live at ≡ false
   not_live = elim (cases_Bool (has a.live at)) [ inl e ↦ absurd (both_ways _ gives.free (b.live at e)) | inr e ↦ e ]
@@ -103,19 +104,19 @@ module _ (a : Table) (r low high at : ℕ) (t t' : Table) (gives : Gives r low h
       (and_right (taken a t' at) _ (ap (λ (v : Row). has v.follow q) gives.fresh ∙ has_nothing q) ∙ sym (and_left _ (follows_at t at q) not_taken))
       (λ x d. ap₂ (λ (y : Bool) (v : Row). y && has v.follow q) (other_taken x d) (gives.kept x d)) p
 
-  give_codes : (p c : ℕ) → codes_new a t' p c ≡ ((eqb at p && ranged low high c) || codes_new a t p c)
+  give_codes : (p c : ℕ) → codes_new a t' p c ≡ ((eqb at p && contains codes c) || codes_new a t p c)
   give_codes p c =
-      at_place (λ x. codes_new a t' x c) (λ x. (eqb at x && ranged low high c) || codes_new a t x c)
+      at_place (λ x. codes_new a t' x c) (λ x. (eqb at x && contains codes c) || codes_new a t x c)
       (ap₂ (λ (y : Bool) (v : Row). y && takes v c) here_taken gives.fresh
-      ∙ sym (ap₂ (λ (x y : Bool). (x && ranged low high c) || y) (eq-eqb at at refl) (and_left _ (takes (row t.rows at) c) not_taken) ∙ or_false (ranged low high c)))
+      ∙ sym (ap₂ (λ (x y : Bool). (x && contains codes c) || y) (eq-eqb at at refl) (and_left _ (takes (row t.rows at) c) not_taken) ∙ or_false (contains codes c)))
       (λ x d. ap₂ (λ (y : Bool) (v : Row). y && takes v c) (other_taken x d) (gives.kept x d)
-      ∙ sym (ap (λ (y : Bool). (y && ranged low high c) || codes_new a t x c) (other_than x d))) p
+      ∙ sym (ap (λ (y : Bool). (y && contains codes c) || codes_new a t x c) (other_than x d))) p
 
-  pub give_rows : (es : List Labelled) → Rows a t es → Rows a t' (symbol at low high ∷ es)
+  pub give_rows : (es : List Labelled) → Rows a t es → Rows a t' (symbol at codes.low codes.high ∷ es)
   give_rows es rows =
       tabled_at (λ p. eqb at p || taken a t p) (taken a t') (follows_new a t) (follows_new a t')
-      (λ p c. (eqb at p && ranged low high c) || codes_new a t p c) (codes_new a t') (symbol at low high ∷ es) give_used give_follows give_codes
-      (tabled_symbol (taken a t) (follows_new a t) (codes_new a t) es at low high rows)
+      (λ p c. (eqb at p && contains codes c) || codes_new a t p c) (codes_new a t') (symbol at codes.low codes.high ∷ es) give_used give_follows give_codes
+      (tabled_symbol (taken a t) (follows_new a t) (codes_new a t) es at codes.low codes.high rows)
 
   pub give_beside : Beside a r t'
   give_beside = record {
@@ -172,15 +173,15 @@ module _ (a : Table) (r : ℕ) where
       beside = b.beside;
     }
 
-    pub build_symbol : (low high at : ℕ) → Gives r low high at t t' → ((lo hi : ℕ) → Shows k (symbol at lo hi)) → Building a r W ks t
-        → Building a r (symbol tt low high ∷ W) (k ∷ ks) t'
-    build_symbol low high at gives s b = record {
-      waiting = symbol at low high ∷ b.waiting;
-      named = ap (λ (x : List Plain). symbol tt low high ∷ x) b.named;
-      shown = (s low high, b.shown);
-      separate = separate_symbol at low high b.waiting (λ x. both_ways _ (not_taken a r low high at t t' gives b.beside) ((b.rows.used at).1 x)) b.separate;
-      rows = give_rows a r low high at t t' gives b.beside b.waiting b.rows;
-      beside = give_beside a r low high at t t' gives b.beside;
+    pub build_symbol : (codes : CodeRange) (at : ℕ) → Gives r codes at t t' → ((lo hi : ℕ) → Shows k (symbol at lo hi)) → Building a r W ks t
+        → Building a r (symbol tt codes.low codes.high ∷ W) (k ∷ ks) t'
+    build_symbol codes at gives s b = record {
+      waiting = symbol at codes.low codes.high ∷ b.waiting;
+      named = ap (λ (x : List Plain). symbol tt codes.low codes.high ∷ x) b.named;
+      shown = (s codes.low codes.high, b.shown);
+      separate = separate_symbol at codes.low codes.high b.waiting (λ x. both_ways _ (not_taken a r codes at t t' gives b.beside) ((b.rows.used at).1 x)) b.separate;
+      rows = give_rows a r codes at t t' gives b.beside b.waiting b.rows;
+      beside = give_beside a r codes at t t' gives b.beside;
     }
 
     -- a last position of what waits was taken

@@ -15,7 +15,7 @@ owner_none : (t : Table) (p : ℕ) → has t.live p ≡ false → (table_meaning
 owner_none t p e = ap (λ (l : Bool). cond l (Some (rule_at t p)) None) e
 
 module _ (r : ℕ) (a b : Table) (force : in_force a r ≡ true) (gone : Removes r a b) where
-  gone_kind : get_or b.kinds r None ≡ None
+  gone_kind : get_or b.kinds.by_rule r None ≡ None
   gone_kind = ap (λ (ks : List (Option ℕ)). get_or ks r None) gone.kinds ∙ kind_here a r None (rule_below a r force)
 
   -- r owns nothing any more
@@ -30,7 +30,7 @@ module _ (r : ℕ) (a b : Table) (force : in_force a r ≡ true) (gone : Removes
 
   pub delete_alike : Alike r a b
   delete_alike = record {
-    kinds = λ q d. ap (λ (ks : List (Option ℕ)). get_or ks q None) gone.kinds ∙ get_or-set_other a.kinds r q None None d;
+    kinds = λ q d. ap (λ (ks : List (Option ℕ)). get_or ks q None) gone.kinds ∙ get_or-set_other a.kinds.by_rule r q None None d;
     freed = λ p e n. gone.live p ∙ lost (has a.live p) p e;
     fresh = λ p e n. absurd (both_ways _ (none_owned p) e);
     same = λ p e n. record {

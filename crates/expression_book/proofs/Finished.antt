@@ -2,9 +2,9 @@
 use Rattle.std.proofs.Common.{◌≡◌, ℕ, true, ◌||◌, ◌⊎◌, List, [], ◌∷◌, map, Decides, sym, ap, ◌∙◌, inl, inr}
 use Rattle.std.proofs.lemmas.Bool.{both_ways, and_parts}
 use Rattle.std.proofs.lemmas.Bool.Decides.{Decides-at, Decides-or}
-use Rattle.states.specs.declared.state.State.{State}
-use Rattle.states.specs.Sets.{has}
+use Rattle.states.specs.Sets.{State, has}
 use Rattle.expressions.specs.Expression.{symbol, join, Labelled, Plain, plain}
+use Rattle.expressions.specs.CodeRange.{none}
 use Rattle.expressions.specs.Positions.{Owns, Distinct, First, followed_by}
 use Rattle.expressions.proofs.Owned.{first_owned, last_owned}
 use Rattle.expression_book.specs.declared.part.Part.{Part}
@@ -16,7 +16,7 @@ use Rattle.expression_book.proofs.Pieces.{tabled_join, separate_symbol, separate
 use Rattle.expression_book.proofs.Built.{Rows, follows_new, codes_new, link_rows, link_beside, not_taken, give_rows, give_beside}
 
 module _ (a : Table) (r : ℕ) (t₁ t₂ : Table) (at : ℕ) (e : Plain) (part kend : Part) (b : Building a r (e ∷ []) (part ∷ []) t₁)
-    (gives : Gives r 1 0 at t₁ t₂) (shows-end : (lo hi : ℕ) → Shows kend (symbol at lo hi)) where
+    (gives : Gives r none at t₁ t₂) (shows-end : (lo hi : ℕ) → Shows kend (symbol at lo hi)) where
   alone : (x : Labelled) × Shows part x × (plain x ≡ e) × Separate (x ∷ []) × Rows a t₁ (x ∷ [])
   alone = go b.waiting b.named b.shown b.separate b.rows
     where
@@ -39,17 +39,17 @@ module _ (a : Table) (r : ℕ) (t₁ t₂ : Table) (at : ℕ) (e : Plain) (part 
 
   separate : Separate (symbol at 1 0 ∷ body ∷ [])
   unfolding body
-  separate = separate_symbol at 1 0 (body ∷ []) (λ x. both_ways _ (not_taken a r 1 0 at t₁ t₂ gives b.beside) ((alone.4.used at).1 x)) alone.3
+  separate = separate_symbol at 1 0 (body ∷ []) (λ x. both_ways _ (not_taken a r none at t₁ t₂ gives b.beside) ((alone.4.used at).1 x)) alone.3
 
   pub distinct : Distinct (followed_by body at)
   distinct = (separate_two body (symbol at 1 0) [] separate).0
 
   rows₂ : Rows a t₂ (symbol at 1 0 ∷ body ∷ [])
   unfolding body
-  rows₂ = give_rows a r 1 0 at t₁ t₂ gives b.beside (body ∷ []) alone.4
+  rows₂ = give_rows a r none at t₁ t₂ gives b.beside (body ∷ []) alone.4
 
   beside₂ : Beside a r t₂
-  beside₂ = give_beside a r 1 0 at t₁ t₂ gives b.beside
+  beside₂ = give_beside a r none at t₁ t₂ gives b.beside
 
   last_inside : (p : ℕ) → has part.last p ≡ true → taken a t₂ p ≡ true
   last_inside p h = (rows₂.used p).1 (inr (inl (last_owned body p ((shows_body.last p).0 h))))

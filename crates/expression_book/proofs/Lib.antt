@@ -2,7 +2,6 @@ mod Edits
 mod Removed
 pub mod Alike
 mod Deleted
-mod Stacks
 mod Grown
 mod Pieces
 mod Built

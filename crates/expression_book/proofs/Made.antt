@@ -1,9 +1,8 @@
 -- A table without rules. Assumes nothing.
-use Rattle.std.proofs.Common.{◌≡◌, ℕ, zero, suc, Bool, false, ◌&&◌, eqb, List, get_or, replicate, None, Option, refl, ap, ◌∙◌, inl, inr}
+use Rattle.std.proofs.Common.{◌≡◌, ℕ, zero, suc, Bool, false, ◌&&◌, eqb, List, get_or, replicate, refl, ap, ◌∙◌, inl, inr}
 use Rattle.std.proofs.lemmas.Bool.{cases_lt, cases_Bool, both_ways, and_parts}
-use Rattle.states.specs.declared.state.State.{State}
+use Rattle.states.specs.Sets.{State, has, has_rule, rules_of}
 use Rattle.states.specs.Words.{some}
-use Rattle.states.specs.Sets.{has, has_rule, rules_of}
 use Rattle.states.proofs.Members.{some_member, has_rule_rules_of, rules_above}
 use Rattle.expression_book.specs.declared.row.Row.{Row}
 use Rattle.expression_book.specs.Rows.{blank, row}
@@ -14,9 +13,6 @@ everywhere : {X : Type 0} (x : X) (n i : ℕ) → get_or (replicate n x) i x ≡
 everywhere x zero i = refl
 everywhere x (suc n) zero = refl
 everywhere x (suc n) (suc i) = everywhere x n i
-
-pub nones : (n q : ℕ) → ◌≡◌ {A = Option ℕ} (get_or (replicate n None) q None) None
-nones n q = everywhere None n q
 
 pub blanks : (w : Row) → w ≡ blank → (n p q : ℕ) → has (row (replicate n w) p).follow q ≡ false
 blanks w is n p q =

@@ -1,24 +1,26 @@
 -- A command obeyed on the stack, as the code has it: ps are the parts before, qs those after. Assumes nothing.
-use Rattle.std.proofs.Common.{◌≡◌, ℕ, suc, ◌+◌, ◌≤◌, List, [], ◌∷◌, length, sym, refl, ap, ◌∙◌, subst, arith}
-use Rattle.std.proofs.lemmas.List.{length-map}
+use Rattle.std.proofs.Common.{◌≡◌, ℕ, suc, List, [], ◌∷◌, ◌++◌, length, reverse, Option, Some, sym, refl, ap, ◌∙◌, subst, arith}
+use Rattle.std.proofs.lemmas.List.{length-map, reverse-append}
+use Rattle.std.specs.Option.{option_to_list}
+use Rattle.arrayvec.specs.ArrayVec.{ArrayVec}
+use Rattle.expressions.specs.declared.code_range.CodeRange.{CodeRange}
 use Rattle.expressions.specs.declared.command.Command.{Command}
 use Rattle.expressions.specs.declared.command.Command.TheVariants.{Empty, Symbol, Join, Either, Star, Plus, Optional}
 use Rattle.expressions.specs.Expression.{empty, symbol, join, either, star, plus, optional, Labelled, Plain, plain}
-use Rattle.expressions.specs.Commands.{adds, applied}
+use Rattle.expressions.specs.Commands.{applied}
 use Rattle.expression_book.specs.declared.part.Part.{Part}
 use Rattle.expression_book.specs.declared.table.Table.{Table}
-use Rattle.expression_book.specs.declared.waiting.Waiting.{Waiting}
 use Rattle.expression_book.specs.Parts.{Shows, stacked}
 use Rattle.expression_book.specs.Building.{Gives, Links, AllShow, Building}
-use Rattle.expression_book.proofs.Stacks.{down_length}
 use Rattle.expression_book.proofs.Built.{build_empty, build_symbol, build_join, build_either, build_star, build_plus, build_optional}
 
-pub stack_fits : (w : Waiting) → length (stacked w) ≤ 40
-stack_fits w = let few = w.fits in omega (arith, down_length w.parts w.count)
+-- a part put behind the others is the first of the parts that wait
+pub stacked_more : (v w : ArrayVec Part) (k : Part) → w.items ≡ v.items ++ k ∷ [] → stacked w ≡ k ∷ stacked v
+stacked_more v w k e = ap reverse e ∙ reverse-append v.items (k ∷ [])
 
--- as many symbols as the command adds
-pub adds_so_many : (m n k : ℕ) (c d : Command) → c ≡ d → adds d ≡ k → n ≡ m + k → n ≡ m + adds c
-adds_so_many m n k c d is e h = omega (arith, ap adds is)
+-- and one taken from behind them was
+pub stacked_less : (v w : ArrayVec Part) (o : Option Part) (k : Part) → v.items ≡ w.items ++ option_to_list o → o ≡ Some k → stacked v ≡ k ∷ stacked w
+stacked_less v w o k e is = stacked_more w v k (e ∙ ap (λ (x : Option Part). w.items ++ option_to_list x) is)
 
 all_shown : (ks : List Part) (es : List Labelled) → AllShow ks es → length ks ≡ length es
 all_shown [] [] s = refl
@@ -40,10 +42,10 @@ module _ (a : Table) (r : ℕ) (t t' : Table) (ps qs ks : List Part) (k : Part) 
   obey_empty is before s W b =
       obeyed W Empty t is (build_empty a r W ks k t t s (subst (λ (xs : List Part). Building a r W xs t) before b))
 
-  pub obey_symbol : (low high at : ℕ) → c ≡ Symbol low high → ps ≡ ks → Gives r low high at t t' → ((lo hi : ℕ) → Shows k (symbol at lo hi))
+  pub obey_symbol : (codes : CodeRange) (at : ℕ) → c ≡ Symbol codes → ps ≡ ks → Gives r codes at t t' → ((lo hi : ℕ) → Shows k (symbol at lo hi))
       → (W : List Plain) → Building a r W ps t → Building a r (applied c W) qs t'
-  obey_symbol low high at is before gives s W b =
-      obeyed W (Symbol low high) t' is (build_symbol a r W ks k t t' low high at gives s (subst (λ (xs : List Part). Building a r W xs t) before b))
+  obey_symbol codes at is before gives s W b =
+      obeyed W (Symbol codes) t' is (build_symbol a r W ks k t t' codes at gives s (subst (λ (xs : List Part). Building a r W xs t) before b))
 
   module _ (ka kb : Part) (before : ps ≡ kb ∷ ka ∷ ks) where
     -- two expressions wait at least

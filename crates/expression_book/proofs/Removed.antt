@@ -1,11 +1,10 @@
 -- A table from which a rule is taken: its invariants. Assumes nothing.
-use Rattle.std.proofs.Common.{◌≡◌, ℕ, ◌<◌, Bool, true, false, not, ◌&&◌, eqb, ◌⊎◌, List, get_or, set, is_some, Some, None, Option, sym, refl, ap, ◌∙◌, inl, inr, arith}
+use Rattle.std.proofs.Common.{◌≡◌, ℕ, ◌<◌, Bool, true, false, not, ◌&&◌, eqb, ◌⊎◌, List, get_or, set, is_some, None, Option, sym, refl, ap, ◌∙◌, inl, inr, arith}
 use Rattle.std.proofs.lemmas.List.{get_or-set_same, get_or-set_other}
-use Rattle.std.proofs.lemmas.Bool.{cases_eq, cases_Bool, both_ways, and_parts, and_from, eqb-true, eq-eqb, not-true}
+use Rattle.std.proofs.lemmas.Bool.{cases_Bool, both_ways, and_parts, and_from, eqb-true, eq-eqb, not-true}
 use Rattle.std.proofs.lemmas.Bool.Decides.{same_from_decides}
-use Rattle.states.specs.declared.state.State.{State}
+use Rattle.states.specs.Sets.{State, has}
 use Rattle.states.specs.Words.{Gathers}
-use Rattle.states.specs.Sets.{has}
 use Rattle.states.proofs.Members.{has_nothing}
 use Rattle.expression_book.specs.declared.table.Table.{Table}
 use Rattle.expression_book.specs.declared.row.Row.{Row}
@@ -29,15 +28,8 @@ positions_made t r out all p = same_from_decides _ _ (all p) (
 
 -- ---- one kind written
 
-pub kind_here : (t : Table) (r : ℕ) (o : Option ℕ) → r < 64 → get_or (set t.kinds r o) r None ≡ o
-kind_here t r o low = let long = t.sizes.0 in get_or-set_same t.kinds r o None (omega arith)
-
-pub kinds_small : (t : Table) (r : ℕ) (o : Option ℕ) → r < 64 → ((k : ℕ) → o ≡ Some k → k < 4096)
-    → (q k : ℕ) → get_or (set t.kinds r o) q None ≡ Some k → k < 4096
-kinds_small t r o low written q k e = elim (cases_eq q r) [
-  | inl here ↦ written k (sym (kind_here t r o low) ∙ ap (λ (x : ℕ). get_or (set t.kinds r o) x None) (sym here) ∙ e)
-  | inr other ↦ t.small q k (sym (get_or-set_other t.kinds r q o None other) ∙ e)
-]
+pub kind_here : (t : Table) (r : ℕ) (o : Option ℕ) → r < 64 → get_or (set t.kinds.by_rule r o) r None ≡ o
+kind_here t r o low = let long = t.kinds.size.0 in get_or-set_same t.kinds.by_rule r o None (omega arith)
 
 pub blank_follows : (q : ℕ) → has blank.follow q ≡ false
 unfolding blank
@@ -57,11 +49,11 @@ module _ (a : Table) (r : ℕ) (rows : List Row) (gone live : State) (is : (p : 
   still : (p : ℕ) → has live p ≡ true → (has a.live p ≡ true) × (has gone p ≡ false)
   still p h = let w = and_parts (has a.live p) (not (has gone p)) (sym (lives p) ∙ h) in (w.0, not-true _ w.1)
 
-  pub removal_owned : (p : ℕ) → has live p ≡ true → is_some (get_or (set a.kinds r None) (row rows p).rule None) ≡ true
+  pub removal_owned : (p : ℕ) → has live p ≡ true → is_some (get_or (set a.kinds.by_rule r None) (row rows p).rule None) ≡ true
   removal_owned p h =
       let w = still p h in
-      ap (λ (v : Row). is_some (get_or (set a.kinds r None) v.rule None)) (kept p w.1)
-      ∙ ap is_some (get_or-set_other a.kinds r (rule_at a p) None None (other_rule p w.0 w.1)) ∙ a.owned p w.0
+      ap (λ (v : Row). is_some (get_or (set a.kinds.by_rule r None) v.rule None)) (kept p w.1)
+      ∙ ap is_some (get_or-set_other a.kinds.by_rule r (rule_at a p) None None (other_rule p w.0 w.1)) ∙ a.owned p w.0
 
   -- so do the start and the ends stay inside
   pub removal_inside : (from to : State) → ((p : ℕ) → has from p ≡ true → has a.live p ≡ true)

@@ -1,13 +1,14 @@
 -- Between two commands of a run that spells an expression. Assumes nothing.
-use Rattle.std.proofs.Common.{◌≡◌, ℕ, zero, suc, ◌+◌, ◌-◌, ◌<◌, ◌≤◌, true, List, [], ◌∷◌, length, get_or, is_some, None, Ok, Err, Option, Result, sym, refl, ap, ◌∙◌, subst, inl, inr, le_refl, arith}
+use Rattle.std.proofs.Common.{◌≡◌, ℕ, zero, suc, ◌+◌, ◌-◌, ◌<◌, ◌≤◌, true, List, [], ◌∷◌, length, get_or, take, drop, is_some, IsOk, None, Ok, Err, Option, Result, sym, refl, ap, ◌∙◌, subst, inl, inr, le_refl, arith, rules}
 use Rattle.std.proofs.lemmas.List.{nil_from_length}
 use Rattle.std.proofs.lemmas.Bool.{and_parts}
+use Rattle.std.specs.Borrow.{Bor}
 use Rattle.states.specs.Sets.{has, size}
 use Rattle.books.specs.declared.faults.Cause.{Cause}
 use Rattle.expressions.specs.declared.command.Command.{Command}
 use Rattle.expressions.specs.Expression.{Labelled, Plain, symbols}
 use Rattle.expressions.specs.Positions.{Owns}
-use Rattle.expressions.specs.Commands.{adds, decoded, applied, alone, turn, read, read_all}
+use Rattle.expressions.specs.Commands.{adds, decoded, Decodes, applied, alone, turn, read, read_all}
 use Rattle.expressions.specs.Rules.{needed}
 use Rattle.expressions.proofs.Owned.{first_owned, last_owned}
 use Rattle.expressions.proofs.Steps.{passes}
@@ -71,14 +72,15 @@ module _ (t : Table) (r : ℕ) (own : ℕ → Type 0) (mine : (p : ℕ) → own 
 
 -- the next command can be obeyed
 pub ready : (last : ℕ) (bytes : List ℕ) (r : ℕ) (a : Table) (rest : List ℕ) (parts : List Part) (t : Table) (c : Command) (v : List ℕ)
-    → (u : Underway last bytes r a rest parts t) → is_some ((table_meaning a).kind r) ≡ true → Onward last (length bytes) rest u.waits c v → Ready r c parts t
-ready last bytes r a rest parts t c v u force on =
+    → (u : Underway last bytes r a rest parts t) → length parts ≤ 40 → is_some ((table_meaning a).kind r) ≡ true → Onward last (length bytes) rest u.waits c v → Ready r c parts t
+ready last bytes r a rest parts t c v u most force on =
     let b = u.built in
     let many = as_many a r u.waits parts t b in
     let later = no_more_symbols last (length bytes) (length v) (applied c u.waits) v u.expression (le_refl (length v)) (sym on.same ∙ u.onward) in
     record {
       enough = omega (arith, on.enough);
       few = λ z. omega (arith, on.few z);
+      most = most;
       free = λ z. omega (arith, u.room, u.count, on.symbols_after);
       force = ap (λ (ks : List (Option ℕ)). is_some (get_or ks r None)) b.beside.holds.kinds ∙ force;
       within = all_within t r (λ p. taken a t p ≡ true) (λ p h. (mine t p r).1 ((and_parts (has t.live p) _ h).0, b.beside.rule p h)) parts b.waiting (λ p o. (b.rows.used p).1 o) b.shown;
@@ -91,12 +93,21 @@ module _ (last : ℕ) (bytes : List ℕ) (r : ℕ) (a : Table) (rest : List ℕ)
   waiting : length u.waits ≡ n
   waiting = as_many a r u.waits ps t u.built ∙ sym many
 
-  pub turned : (c : Command) (v : List ℕ) → Front last n rest (Ok (c, v)) → Onward last (length bytes) rest u.waits c v
+  turned : (c : Command) (v : List ℕ) → Front last n rest (Ok (c, v)) → Onward last (length bytes) rest u.waits c v
   turned c v front = onward last (length bytes) n rest u.waits c v waiting some front
 
   -- a command that is refused would end the reading
-  pub never_refused : (q : Cause) → Front last n rest (Err q) → ⊥
+  never_refused : (q : Cause) → Front last n rest (Err q) → ⊥
   never_refused q front = not_both _ u.expression _ u.onward (refused_at last (length bytes) n rest u.waits q waiting some front)
+
+  -- so the step is accepted, and the reading goes on behind it
+  pub accepted : (s : Result (Command × Bor (List ℕ)) Cause) → Decodes last n (get_or rest 0 0) (take (length rest - 1) (drop 1 rest)) s → IsOk s
+  accepted (Ok x) d = search rules
+  accepted (Err q) d = absurd (never_refused q d)
+
+  pub turned_by : (s : Result (Command × Bor (List ℕ)) Cause) → Decodes last n (get_or rest 0 0) (take (length rest - 1) (drop 1 rest)) s
+      → (x : Command × Bor (List ℕ)) → s ≡ Ok x → Onward last (length bytes) rest u.waits x.0 x.1.now
+  turned_by s d x is = turned x.0 x.1.now (subst (λ y. Decodes last n (get_or rest 0 0) (take (length rest - 1) (drop 1 rest)) y) is d)
 
 pub underway_none : (last : ℕ) (bytes : List ℕ) (r : ℕ) (a : Table) (parts : List Part) → parts ≡ [] → Roomy last bytes a → Underway last bytes r a bytes parts a
 underway_none last bytes r a parts none (e, spelled, room) = record {

@@ -1,7 +1,7 @@
 -- What stays true while commands give a rule its positions.
 use Rattle.std.specs.Prelude.{◌≡◌, ℕ, ◌+◌, ◌<◌, ◌≤◌, Bool, true, false, not, ◌&&◌, ◌||◌, ◌⊎◌, List, [], ◌∷◌, map, length, is_some, Some, Ok, Decides, ◌==◌, ◌≢◌, slice_set}
-use Rattle.states.specs.declared.state.State.{State}
-use Rattle.states.specs.Sets.{has, size}
+use Rattle.states.specs.Sets.{State, has, size}
+use Rattle.expressions.specs.declared.code_range.CodeRange.{CodeRange}
 use Rattle.expressions.specs.declared.command.Command.{Command}
 use Rattle.expressions.specs.Expression.{Labelled, Plain, plain, symbols}
 use Rattle.expressions.specs.Positions.{Owns, Disjoint, Distinct, Takes, First, Follow, followed_by}
@@ -18,17 +18,17 @@ use Rattle.expression_book.specs.Tables.{table_meaning, owns}
 
 -- from a to b nothing but rows and live positions changes
 pub record Holds (a b : Table) : Type 0 where
-  pub kinds : b.kinds ≡ a.kinds
+  pub kinds : b.kinds.by_rule ≡ a.kinds.by_rule
   pub start : b.start ≡ a.start
   pub ends : b.ends ≡ a.ends
   pub note : b.asked ≡ a.asked
 
--- from a to b position p, which was free, becomes one of rule r that takes the codes from low to high
-pub record Gives (r low high p : ℕ) (a b : Table) : Type 0 where
+-- from a to b position p, which was free, becomes one of rule r that takes these codes
+pub record Gives (r : ℕ) (codes : CodeRange) (p : ℕ) (a b : Table) : Type 0 where
   pub holds : Holds a b
   pub free : has a.live p ≡ false
   pub live : (q : ℕ) → has b.live q ≡ (has a.live q || q == p)
-  pub fresh : row b.rows p ≡ fresh_row r low high
+  pub fresh : row b.rows p ≡ fresh_row r codes
   pub kept : (q : ℕ) → (q ≢ p) → row b.rows q ≡ row a.rows q
   pub count : size b.live ≡ size a.live + 1
 
@@ -100,6 +100,7 @@ AllWithin t r (k ∷ ks) = Within t r k × AllWithin t r ks
 pub record Ready (r : ℕ) (c : Command) (parts : List Part) (t : Table) : Type 0 where
   pub enough : Commands.takes c ≤ length parts
   pub few : Commands.takes c ≡ 0 → length parts < 40
+  pub most : length parts ≤ 40
   pub free : 0 < Commands.adds c → size t.live < 256
   pub force : is_some ((table_meaning t).kind r) ≡ true
   pub within : AllWithin t r parts
@@ -121,7 +122,7 @@ pub record Puts (r k : ℕ) (e : Plain) (a b : Table) : Type 0 where
   pub rule : (p : ℕ) → taken a b p ≡ true → (row b.rows p).rule ≡ r
   pub live : (p : ℕ) → has a.live p ≡ true → has b.live p ≡ true
   pub kept : (p : ℕ) → taken a b p ≡ false → row b.rows p ≡ row a.rows p
-  pub kinds : b.kinds ≡ slice_set a.kinds r (Some k)
+  pub kinds : b.kinds.by_rule ≡ slice_set a.kinds.by_rule r (Some k)
   pub start : (p : ℕ) → Decides (has b.start p) ((has a.start p ≡ true) ⊎ First (followed_by body end) p)
   pub ends : (p : ℕ) → Decides (has b.ends p) ((has a.ends p ≡ true) ⊎ (end ≡ p))
   pub note : b.asked ≡ a.asked

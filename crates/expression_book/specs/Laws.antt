@@ -4,10 +4,8 @@ use Rattle.std.proofs.Common.{sym, ap, ◌∙◌, inl, inr, arith}
 use Rattle.std.proofs.lemmas.List.{get_or_past}
 use Rattle.std.proofs.lemmas.Bool.{cases_lt, both_ways, and_parts, and_from, eqb-true, eq-eqb, lt-ltb}
 use Rattle.std.proofs.lemmas.Bool.Decides.{same_from_decides}
-use Rattle.states.specs.declared.state.State.{State}
-use Rattle.states.specs.declared.rules.Rules.{Rules}
+use Rattle.states.specs.Sets.{State, Rules, has, has_rule, set_of, rules_of}
 use Rattle.states.specs.Words.{some, Gathers}
-use Rattle.states.specs.Sets.{has, has_rule, set_of, rules_of}
 use Rattle.states.proofs.Members.{has_set_of, has_rule_rules_of, member_below, some_member, rules_above, same_members, same_rules}
 use Rattle.books.specs.Meaning.{Meaning, Lawful, Live, touches, is}
 use Rattle.expression_book.specs.declared.table.Table.{Table}
@@ -15,7 +13,7 @@ use Rattle.expression_book.specs.Rows.{row, takes, leads}
 use Rattle.expression_book.specs.Tables.{table_meaning}
 
 abbrev pub in_force : Table → ℕ → Bool
-in_force t r = is_some (slice_index_or t.kinds r None)
+in_force t r = is_some (slice_index_or t.kinds.by_rule r None)
 
 -- the rule at position p
 abbrev pub rule_at : Table → ℕ → ℕ
@@ -77,9 +75,9 @@ module _ (t : Table) where
   pub rule_below : (r : ℕ) → in_force t r ≡ true → r < 64
   rule_below r e = elim (cases_lt r 64) [
     | inl l ↦ l
-    | inr l ↦ (let long = t.sizes.0 in
-        let out : length t.kinds ≤ r = omega arith in
-        absurd (both_ways (in_force t r) (ap is_some (get_or_past t.kinds r None out)) e))
+    | inr l ↦ (let long = t.kinds.size.0 in
+        let out : length t.kinds.by_rule ≤ r = omega arith in
+        absurd (both_ways (in_force t r) (ap is_some (get_or_past t.kinds.by_rule r None out)) e))
   ]
 
   -- ---- steps and ends
@@ -135,7 +133,7 @@ module _ (t : Table) where
 
   pub table_lawful : Lawful (table_meaning t)
   table_lawful = record {
-    rules = λ r k e. (rule_below r (ap is_some e), t.small r k e);
+    rules = λ r k e. (rule_below r (ap is_some e), t.kinds.small r k e);
     owners = λ p r e. let w = owner_from p r e in (member_below t.live p w.0, ap (in_force t) (sym w.1) ∙ t.owned p w.0);
     starts = starts;
     steps = steps;

@@ -11,7 +11,7 @@ use Rattle.expression_book.specs.Rows.{blank, row, leads}
 -- positions that are ends.
 abbrev pub table_meaning : Table → Meaning
 table_meaning t = record {
-  kind = λ r. slice_index_or t.kinds r None;
+  kind = λ r. slice_index_or t.kinds.by_rule r None;
   owner = λ p. cond (has t.live p) (Some (row t.rows p).rule) None;
   start = t.start;
   next = λ s c. set_of (λ q. some (λ p. has s p && leads t.rows c p q) 256);
@@ -28,7 +28,7 @@ owns t r p = is ((table_meaning t).owner p) r
 
 -- From a to b rule r goes: its positions are live no more, their rows are blank, and all else stays.
 pub record Removes (r : ℕ) (a b : Table) : Type 0 where
-  pub kinds : b.kinds ≡ slice_set a.kinds r None
+  pub kinds : b.kinds.by_rule ≡ slice_set a.kinds.by_rule r None
   pub live : (p : ℕ) → has b.live p ≡ (has a.live p && not (owns a r p))
   pub start : (p : ℕ) → has b.start p ≡ (has a.start p && not (owns a r p))
   pub ends : (p : ℕ) → has b.ends p ≡ (has a.ends p && not (owns a r p))

@@ -2,10 +2,10 @@
 #![tactic(auto)]
 
 mod book;
+mod given;
 mod part;
 mod row;
 mod table;
-mod waiting;
 
 pub use book::ExpressionBook;
 use books::{Book, ChangingBook, Noted};

@@ -1,9 +1,9 @@
 // What is kept of an expression that waits.
-ghost use Rattle.std.specs.Prelude.{◌≡◌, ℕ, ◌&&◌};
-ghost use Rattle.states.specs.Sets.{has};
+ghost use Rattle.std.specs.Prelude.{ℕ};
 ghost use Rattle.expressions.specs.Expression.{Expr, Labelled};
 ghost use Rattle.expression_book.specs.Parts.{Shows};
 
+use crate::given::given;
 use states::State;
 
 // Whether the expression denotes the empty text, and the positions that can come first and last.
@@ -67,15 +67,14 @@ impl Part {
     {
         Part {
             nullable: true,
-            first: self.first,
-            last: self.last,
+            ..self
         }
     }
 }
 
-// The set, or nothing where the condition fails.
-fn given(condition: bool, set: State) -> State
-    ensures { (p : ℕ) → has result p ≡ (condition && has «set» p) }
-{
-    if condition { set } else { State::empty() }
+// A place of a stack that holds no part is blank.
+impl Default for Part {
+    fn default() -> Part {
+        Part::empty()
+    }
 }

@@ -1,9 +1,10 @@
 // The positions of all rules in force, apart from their operations, whose contracts name this type.
-ghost use Rattle.std.specs.Prelude.{◌≡◌, ℕ, ◌<◌, true, length, is_some, Some, None, slice_index_or};
+ghost use Rattle.std.specs.Prelude.{◌≡◌, ℕ, true, length, is_some, None, slice_index_or};
 ghost use Rattle.states.specs.Sets.{has};
 ghost use Rattle.expression_book.specs.Rows.{row};
 
 use crate::row::Row;
+use books::Kinds;
 use states::State;
 
 mod building;
@@ -16,8 +17,8 @@ mod removing;
 // The rules in force by their positions. Each symbol of a rule owns one, and so does the rule's end.
 #[derive(Drop)]
 pub(crate) struct Table {
-    // by rule: its kind, if it is in force
-    pub(crate) kinds: [Option<u16>; 64],
+    // the kinds of the rules in force
+    pub(crate) kinds: Kinds<64>,
     // by position
     pub(crate) rows: [Row; 256],
     // the positions that rules own
@@ -28,9 +29,8 @@ pub(crate) struct Table {
     pub(crate) ends: State,
     // how often a next state was asked for
     pub(crate) asked: u32,
-    ghost sizes: { (length kinds ≡ 64) × (length rows ≡ 256) },
-    ghost small: { (r k : ℕ) → slice_index_or kinds r None ≡ Some k → k < 4096 },
-    ghost owned: { (p : ℕ) → has live p ≡ true → is_some (slice_index_or kinds (row rows p).rule None) ≡ true },
+    ghost long: { length rows ≡ 256 },
+    ghost owned: { (p : ℕ) → has live p ≡ true → is_some (slice_index_or kinds.by_rule (row rows p).rule None) ≡ true },
     ghost starting: { (p : ℕ) → has start p ≡ true → has live p ≡ true },
     ghost ending: { (p : ℕ) → has ends p ≡ true → has live p ≡ true },
     // what is followed and what follows is live, and of one rule

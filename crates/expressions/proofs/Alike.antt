@@ -1,9 +1,8 @@
 -- Books with the same rules are met by the same texts, have as many live positions, and refuse alike. Assumes nothing.
 use Rattle.std.proofs.Common.{◌≡◌, ℕ, ◌+◌, false, cond, leb, List, length, is_some as option_is_some, Some, None, Ok, Err, Option, Result, sym, refl, ap, ◌∙◌, ap₂, inl, inr}
 use Rattle.std.proofs.lemmas.Bool.{both_ways, cases_Bool}
-use Rattle.states.specs.declared.state.State.{State}
+use Rattle.states.specs.Sets.{State, has_rule}
 use Rattle.states.specs.Words.{tally}
-use Rattle.states.specs.Sets.{has_rule}
 use Rattle.states.proofs.Members.{same_rules}
 use Rattle.books.specs.Meaning.{Meaning, Lawful, is, touches}
 use Rattle.books.specs.Texts.{meets}

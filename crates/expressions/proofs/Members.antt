@@ -1,8 +1,7 @@
 -- States that hold one position alone, and the positions of a rule in a state. Assumes nothing.
 use Rattle.std.proofs.Common.{◌≡◌, ℕ, ◌<◌, Bool, true, false, eqb, Some, None, Option, sym, refl, ap, ◌∙◌, subst, inl, inr}
 use Rattle.std.proofs.lemmas.Bool.{both_ways, cases_Bool, eqb-true, eq-eqb, ne_eqb}
-use Rattle.states.specs.declared.state.State.{State}
-use Rattle.states.specs.Sets.{has}
+use Rattle.states.specs.Sets.{State, has}
 use Rattle.states.proofs.Members.{has_set_of, member_below, some_member}
 use Rattle.books.specs.Meaning.{Meaning, Lawful, is, touches}
 use Rattle.expressions.specs.Rules.{only}

@@ -2,8 +2,7 @@
 use Rattle.std.proofs.Common.{◌≡◌, ℕ, true, ◌↔◌, Some, sym, refl, ap, ◌∙◌, subst, inl, inr}
 use mathlib.Core.Logic.Iff
 use Rattle.std.proofs.lemmas.Bool.{both_ways, cases_Bool}
-use Rattle.states.specs.declared.state.State.{State}
-use Rattle.states.specs.Sets.{has, has_rule}
+use Rattle.states.specs.Sets.{State, has, has_rule}
 use Rattle.books.specs.Meaning.{Meaning, Lawful, touches}
 use Rattle.books.specs.Changes.{Elsewhere, Added, Deleted}
 use Rattle.expressions.specs.Expression.{Plain}

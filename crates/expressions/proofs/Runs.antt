@@ -72,7 +72,7 @@ then_read last size W V U x y z rest e f g =
 
 spells_read : (last size : ℕ) (e : Plain) (W : List Plain) (x rest : List ℕ) → Spells last e x → room e + length W ≤ most → ReadsTo last size W (e ∷ W) x rest
 spells_read last size empty W x rest s r = word_read last size Empty W x rest (omega arith) (λ _. omega arith) s
-spells_read last size (symbol l low high) W x rest s r = word_read last size (Symbol low high) W x rest (omega arith) (λ _. omega arith) s
+spells_read last size (symbol l low high) W x rest s r = word_read last size (Symbol (record { low = low; high = high })) W x rest (omega arith) (λ _. omega arith) s
 spells_read last size (join a b) W x rest (y, z, e, g, (u, v, e', g', k)) r =
     then_read last size W (a ∷ W) (join a b ∷ W) x y z rest e (spells_read last size a W y (z ++ rest) g (omega arith))
     (then_read last size (a ∷ W) (b ∷ a ∷ W) (join a b ∷ W) z u v rest e' (spells_read last size b (a ∷ W) u (v ++ rest) g' (omega arith))
@@ -182,3 +182,7 @@ judged last w = record { accepted = λ n. (to (read_all last w) refl n, from n);
 
     from_err : (f : CommandFault) → Refused last f w → counted (read_all last w) ≡ Err f
     from_err f r = ap counted ((refused_right last w f).1 r)
+
+-- by the answer of the executable reading
+pub judged_by : (last : ℕ) (w : List ℕ) (r : Result ℕ CommandFault) → r ≡ counted (read_all last w) → Judged last w r
+judged_by last w r e = subst (Judged last w) (sym e) (judged last w)

@@ -1,29 +1,10 @@
 -- One command: what is behind its letter, and the answers to its questions. Assumes nothing.
-use Rattle.std.proofs.Common.{◌≡◌, ℕ, ◌-◌, ◌<◌, ◌≤◌, Bool, true, false, not, ◌||◌, eqb, ltb, List, length, take, drop, Some, None, Ok, Option, Result, sym, refl, ap, ◌∙◌, subst, inl, inr, arith}
-use Rattle.std.proofs.lemmas.List.{take_rest}
+use Rattle.std.proofs.Common.{◌≡◌, ℕ, ◌<◌, ◌≤◌, Bool, true, false, not, ◌||◌, eqb, ltb, List, length, drop, Some, None, Ok, Option, Result, sym, refl, ap, ◌∙◌, subst, inl, inr, arith}
 use Rattle.std.proofs.lemmas.Bool.{cases_eq, both_ways, not-true, not_from_false, le-leb, leb-true, lt-ltb, ltb-true, eq-eqb, ne_eqb, or_left, or_right, or_cases}
 use Rattle.books.specs.declared.faults.Cause.{Cause}
 use Rattle.books.specs.declared.faults.Cause.TheVariants.{Operands, Codes, TooFew, TooMany}
 use Rattle.expressions.specs.declared.command.Command.{Command}
-use Rattle.expressions.specs.declared.command.Command.TheVariants.{Symbol}
-use Rattle.expressions.specs.Commands.{code_at, command, width, takes, in_range, most, ask, questions, decoded}
-
--- ---- what is behind a letter
-
-pub letter_C : (b : ℕ) (w : List ℕ) (n : ℕ) → b ≡ 67 → 2 ≤ length w → n ≡ code_at w 0 →
-    (width b ≤ length w) × (take (length w - 2) (drop 2 w) ≡ drop (width b) w) × (0 < width b → command b w ≡ Some (Symbol n n))
-letter_C b w n e l m =
-    let c : command b w ≡ Some (Symbol n n) = ap (λ (x : ℕ). command x w) e ∙ ap (λ (x : ℕ). Some (Symbol x x)) (sym m) in
-    let k : width b ≡ 2 = ap width e in
-    (omega arith, take_rest w 2 ∙ ap (λ (x : ℕ). drop x w) (sym k), λ t. c)
-
-pub letter_R : (b : ℕ) (w : List ℕ) (n o : ℕ) → b ≡ 82 → 4 ≤ length w → n ≡ code_at w 0 → o ≡ code_at w 2 →
-    (width b ≤ length w) × (take (length w - 4) (drop 4 w) ≡ drop (width b) w) × (0 < width b → command b w ≡ Some (Symbol n o))
-letter_R b w n o e l m m' =
-    let c : command b w ≡ Some (Symbol n o) =
-    ap (λ (x : ℕ). command x w) e ∙ ap (λ (x : ℕ). Some (Symbol x (code_at w 2))) (sym m) ∙ ap (λ (x : ℕ). Some (Symbol n x)) (sym m') in
-    let k : width b ≡ 4 = ap width e in
-    (omega arith, take_rest w 4 ∙ ap (λ (x : ℕ). drop x w) (sym k), λ t. c)
+use Rattle.expressions.specs.Commands.{command, width, takes, in_range, most, ask, questions, decoded}
 
 -- ---- the questions of a command
 

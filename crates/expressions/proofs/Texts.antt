@@ -1,8 +1,7 @@
 -- A whole text meets a rule exactly when the rule's expression denotes it. Assumes nothing.
 use Rattle.std.proofs.Common.{◌≡◌, ℕ, true, ◌↔◌, List, [], ◌∷◌, Some, sym, refl, ◌∙◌, subst, inr}
 use mathlib.Core.Logic.Iff
-use Rattle.states.specs.declared.state.State.{State}
-use Rattle.states.specs.Sets.{has, has_rule}
+use Rattle.states.specs.Sets.{State, has, has_rule}
 use Rattle.books.specs.Meaning.{Meaning, Lawful}
 use Rattle.books.specs.Texts.{after, meets}
 use Rattle.expressions.specs.Expression.{Plain, Denotes}

@@ -2,10 +2,9 @@
 use Rattle.std.proofs.Common.{◌≡◌, ℕ, true, false, ◌↔◌, List, take, is_some, refl, subst, inl, inr}
 use Rattle.std.proofs.lemmas.Bool.{both_ways, cases_Bool, cases_lt}
 use Rattle.std.proofs.lemmas.Bool.Decides.{Decides-below_or}
-use Rattle.states.specs.declared.rules.Rules.{Rules}
+use Rattle.states.specs.Sets.{Rules, has_rule, no_rule}
 use Rattle.states.specs.Words.{some}
-use Rattle.states.specs.Sets.{has_rule, no_rule}
-use Rattle.states.proofs.Members.{same_rules, no_rule_decides, rules_above}
+use Rattle.states.proofs.Members.{same_rules, is_empty_decides, rules_above}
 use Rattle.books.specs.Meaning.{Meaning, Lawful}
 use Rattle.books.specs.Texts.{meets}
 use Rattle.readings.specs.Readings.{Told, Longest, Searches}
@@ -25,7 +24,7 @@ some_rule rules h =
     let d = Decides-below_or (has_rule rules) (λ r. has_rule rules r ≡ true) (some (has_rule rules)) (λ r. (λ x. x, λ x. x)) refl (λ n. refl) 64 in
     elim (cases_Bool (some (has_rule rules) 64)) [
       | inl t ↦ (let w = d.0 t in (w.0, w.2))
-      | inr t ↦ absurd (both_ways (no_rule rules) h ((no_rule_decides rules).1 (λ r. elim (cases_lt r 64) [
+      | inr t ↦ absurd (both_ways (no_rule rules) h ((is_empty_decides rules _ refl).1 (λ r. elim (cases_lt r 64) [
         | inl l ↦ elim (cases_Bool (has_rule rules r)) [ inl x ↦ absurd (both_ways _ t (d.1 (r, l, x))) | inr x ↦ x ]
         | inr l ↦ rules_above rules r l
       ])))
@@ -51,7 +50,7 @@ module _ (m : Meaning) (lawful : Lawful m) (additive : Additive m) (expressed : 
 
   some_meets : (text : List ℕ) → SomeDenotes m text → no_rule (meets m text) ≡ false
   some_meets text (r, d) = elim (cases_Bool (no_rule (meets m text))) [
-    | inl t ↦ absurd (both_ways _ ((no_rule_decides (meets m text)).0 t r) ((meets_all text r).1 d))
+    | inl t ↦ absurd (both_ways _ ((is_empty_decides (meets m text) _ refl).0 t r) ((meets_all text r).1 d))
     | inr t ↦ t
   ]
 

@@ -2,11 +2,10 @@
 use Rattle.std.proofs.Common.{◌≡◌, ℕ, suc, ◌+◌, ◌-◌, ◌<◌, ◌≤◌, List, [], ◌∷◌, length, get_or, take, drop, Ok, Err, Result, sym, refl, ap, ◌∙◌, arith}
 use Rattle.std.proofs.lemmas.List.{take_rest}
 use Rattle.books.specs.declared.faults.Cause.{Cause}
-use Rattle.books.specs.declared.faults.Cause.TheVariants.{NotOne}
 use Rattle.expressions.specs.declared.command.Command.{Command}
 use Rattle.expressions.specs.declared.command.Command.TheVariants.{Empty, Symbol, Join, Either, Star, Plus, Optional}
 use Rattle.expressions.specs.Expression.{Plain}
-use Rattle.expressions.specs.Commands.{takes, adds, most, decoded, applied, turn, read, counted}
+use Rattle.expressions.specs.Commands.{takes, adds, most, decoded, applied, turn, read}
 use Rattle.expressions.proofs.Steps.{passes}
 use Rattle.expressions.proofs.Words.{length_applied, total, total_applied}
 use Rattle.expressions.proofs.Runs.{decoded_less, read_on}
@@ -29,7 +28,7 @@ pub record Onward (last size : ℕ) (w : List ℕ) (W : List Plain) (c : Command
 
 few_after : (c : Command) (n m : ℕ) → n ≤ most → (takes c ≡ 0 → n < most) → m ≡ n + 1 - takes c → m ≤ most
 few_after Empty n m h f e = omega (arith, f refl)
-few_after (Symbol low high) n m h f e = omega (arith, f refl)
+few_after (Symbol k) n m h f e = omega (arith, f refl)
 few_after Join n m h f e = omega arith
 few_after Either n m h f e = omega arith
 few_after Star n m h f e = omega arith
@@ -38,7 +37,7 @@ few_after Optional n m h f e = omega arith
 
 few_added : (c : Command) → adds c ≤ 1
 few_added Empty = omega arith
-few_added (Symbol low high) = omega arith
+few_added (Symbol k) = omega arith
 few_added Join = omega arith
 few_added Either = omega arith
 few_added Star = omega arith
@@ -71,18 +70,3 @@ refused_at last size n [] W q e some is = absurd (omega arith)
 refused_at last size n (b ∷ rest) W q e some is =
     ap (turn (read last size (length rest)) W (size - suc (length rest)))
     (ap (λ (k : ℕ). decoded last k b rest) e ∙ ap (decoded last n b) (sym (take_rest (b ∷ rest) 1)) ∙ is)
-
--- after the last command exactly one waits
-pub one_left : (last size : ℕ) (w : List ℕ) (W : List Plain) → length w ≡ 0 → length W ≡ 1 → counted (read last size (length w) W w) ≡ Ok (total W)
-one_left last size [] [] none e = absurd (omega arith)
-one_left last size [] (a ∷ []) none e = ap (λ (n : ℕ). Ok n) (omega arith)
-one_left last size [] (a ∷ b ∷ W) none e = absurd (omega arith)
-one_left last size (b ∷ w) W none e = absurd (omega arith)
-
--- or not
-pub not_one_left : (last size : ℕ) (w : List ℕ) (W : List Plain) → length w ≡ 0 → (length W ≡ 1 → ⊥) →
-    read last size (length w) W w ≡ Err (record { cause = NotOne; place = size })
-not_one_left last size [] [] none e = refl
-not_one_left last size [] (a ∷ []) none e = absurd (e refl)
-not_one_left last size [] (a ∷ b ∷ W) none e = refl
-not_one_left last size (b ∷ w) W none e = absurd (omega arith)

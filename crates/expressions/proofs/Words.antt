@@ -1,16 +1,18 @@
 -- The bytes of one command, and what it makes of the expressions that wait. Assumes nothing.
 use Rattle.std.proofs.Common.{◌≡◌, ℕ, ◌+◌, ◌-◌, ◌<◌, ◌≤◌, max, true, cond, eqb, leb, List, [], ◌∷◌, ◌++◌, length, take, drop, Some, None, Ok, Option, sym, refl, ap, ◌∙◌, subst, inl, inr, append_assoc, arith}
 use Rattle.std.proofs.lemmas.Bool.{cond_both, eqb-true, leb-true, le-leb, and_parts, and_from}
+use Rattle.expressions.specs.declared.code_range.CodeRange.{CodeRange}
 use Rattle.expressions.specs.declared.command.Command.{Command}
 use Rattle.expressions.specs.declared.command.Command.TheVariants.{Empty, Symbol, Join, Either, Star, Plus, Optional}
 use Rattle.expressions.specs.Expression.{empty, symbol, join, either, star, plus, optional, Plain, symbols, Language, Concatenation}
+use Rattle.expressions.specs.CodeRange.{only, is_up_to}
 use Rattle.expressions.specs.Commands.{code, code_at, command, width, takes, adds, in_range, most, decoded, applied, Byte, SpellsRange, Spells, room, Leaves}
 use Rattle.expressions.proofs.Steps.{decodes}
 
 -- the runs of the command c alone
 abbrev pub Word : ℕ → Command → Language
 Word last Empty w = Byte 69 w
-Word last (Symbol low high) w = (low ≤ high) × (high ≤ last) × SpellsRange low high w
+Word last (Symbol k) w = (k.low ≤ k.high) × (k.high ≤ last) × SpellsRange k.low k.high w
 Word last Join w = Byte 74 w
 Word last Either w = Byte 65 w
 Word last Star w = Byte 83 w
@@ -19,10 +21,10 @@ Word last Optional w = Byte 79 w
 
 -- ---- what is decoded is a word
 
-range_word : (last low high : ℕ) (w : List ℕ) → in_range last (Symbol low high) ≡ true → SpellsRange low high w → Word last (Symbol low high) w
-range_word last low high w t s =
-    let both = and_parts (leb low high) (leb high last) t in
-    (leb-true low high both.0, leb-true high last both.1, s)
+range_word : (last : ℕ) (k : CodeRange) (w : List ℕ) → is_up_to last k ≡ true → SpellsRange k.low k.high w → Word last (Symbol k) w
+range_word last k w t s =
+    let both = and_parts (leb k.low k.high) (leb k.high last) t in
+    (leb-true _ _ both.0, leb-true _ _ both.1, s)
 
 CWord : (rest : List ℕ) → 2 ≤ length rest → SpellsRange (code_at rest 0) (code_at rest 0) (67 ∷ take 2 rest)
 CWord [] l = absurd (omega arith)
@@ -42,8 +44,8 @@ pub word_of : (last b : ℕ) (rest : List ℕ) (c : Command) → command b rest 
     Word last c (b ∷ take (width b) rest)
 word_of last b rest c is =
     by 69 _ _ (at 69 Empty (λ l t. refl))
-    (by 67 _ _ (at 67 _ (λ l t. range_word last _ _ _ t (CWord rest l)))
-    (by 82 _ _ (at 82 _ (λ l t. range_word last _ _ _ t (RWord rest l)))
+    (by 67 _ _ (at 67 _ (λ l t. range_word last _ _ t (CWord rest l)))
+    (by 82 _ _ (at 82 _ (λ l t. range_word last _ _ t (RWord rest l)))
     (by 74 _ _ (at 74 Join (λ l t. refl))
     (by 65 _ _ (at 65 Either (λ l t. refl))
     (by 83 _ _ (at 83 Star (λ l t. refl)) (by 80 _ _ (at 80 Plus (λ l t. refl)) (by 79 _ _ (at 79 Optional (λ l t. refl)) none))))))) is
@@ -72,13 +74,13 @@ Decoded last waiting c x =
     (b : ℕ) × (y : List ℕ) × (x ≡ b ∷ y) × ((rest : List ℕ) → decoded last waiting b (y ++ rest) ≡ Ok (c, rest))
 
 range_decoded : (last waiting low high : ℕ) (x : List ℕ) → waiting < most → low ≤ high → high ≤ last → SpellsRange low high x →
-    Decoded last waiting (Symbol low high) x
+    Decoded last waiting (Symbol (record { low = low; high = high })) x
 range_decoded last waiting low high x few lo hi (inl (same, (y, z, e, ey, (h, l, ec, ez)))) = (
   67,
   h ∷ l ∷ [],
   e ∙ ap (λ w. w ++ z) ey ∙ ap (λ w. 67 ∷ w) ez,
-  λ rest. decodes last waiting 67 (h ∷ l ∷ rest) (Symbol low high) rest (record {
-    is = ap (λ (n : ℕ). Some (Symbol n n)) (sym ec) ∙ ap (λ (n : ℕ). Some (Symbol low n)) same;
+  λ rest. decodes last waiting 67 (h ∷ l ∷ rest) (Symbol (record { low = low; high = high })) rest (record {
+    is = ap (λ (n : ℕ). Some (Symbol (only n))) (sym ec) ∙ ap (λ (n : ℕ). Some (Symbol (record { low = low; high = n }))) same;
     operands = omega arith;
     codes = and_from _ _ (le-leb low high lo) (le-leb high last hi);
     enough = omega arith;
@@ -90,8 +92,9 @@ range_decoded last waiting low high x few lo hi (inr (y, z, e, ey, (u, v, e', (h
   82,
   h ∷ l ∷ h' ∷ l' ∷ [],
   e ∙ ap (λ w. w ++ z) ey ∙ ap (λ w. 82 ∷ w) (e' ∙ ap (λ w. w ++ v) eu ∙ ap (λ w. h ∷ l ∷ w) ev),
-  λ rest. decodes last waiting 82 (h ∷ l ∷ h' ∷ l' ∷ rest) (Symbol low high) rest (record {
-    is = ap (λ (n : ℕ). Some (Symbol n (code h' l'))) (sym eh) ∙ ap (λ (n : ℕ). Some (Symbol low n)) (sym el);
+  λ rest. decodes last waiting 82 (h ∷ l ∷ h' ∷ l' ∷ rest) (Symbol (record { low = low; high = high })) rest (record {
+    is = ap (λ (n : ℕ). Some (Symbol (record { low = n; high = code h' l' }))) (sym eh)
+        ∙ ap (λ (n : ℕ). Some (Symbol (record { low = low; high = n }))) (sym el);
     operands = omega arith;
     codes = and_from _ _ (le-leb low high lo) (le-leb high last hi);
     enough = omega arith;
@@ -120,7 +123,7 @@ byte_decoded last waiting k c x is none t enough few e = (
 pub word_decoded : (last waiting : ℕ) (c : Command) (x : List ℕ) → takes c ≤ waiting → (takes c ≡ 0 → waiting < most) → Word last c x →
     Decoded last waiting c x
 word_decoded last waiting Empty x enough few e = byte_decoded last waiting 69 Empty x (λ r. refl) refl refl enough few e
-word_decoded last waiting (Symbol low high) x enough few (lo, hi, s) = range_decoded last waiting low high x (few refl) lo hi s
+word_decoded last waiting (Symbol k) x enough few (lo, hi, s) = range_decoded last waiting k.low k.high x (few refl) lo hi s
 word_decoded last waiting Join x enough few e = byte_decoded last waiting 74 Join x (λ r. refl) refl refl enough few e
 word_decoded last waiting Either x enough few e = byte_decoded last waiting 65 Either x (λ r. refl) refl refl enough few e
 word_decoded last waiting Star x enough few e = byte_decoded last waiting 83 Star x (λ r. refl) refl refl enough few e
@@ -131,7 +134,7 @@ word_decoded last waiting Optional x enough few e = byte_decoded last waiting 79
 
 pub length_applied : (c : Command) (W : List Plain) → takes c ≤ length W → length (applied c W) ≡ length W + 1 - takes c
 length_applied Empty W h = omega arith
-length_applied (Symbol low high) W h = omega arith
+length_applied (Symbol k) W h = omega arith
 length_applied Join [] h = absurd (omega arith)
 length_applied Join (b ∷ []) h = absurd (omega arith)
 length_applied Join (b ∷ a ∷ W) h = omega arith
@@ -152,7 +155,7 @@ total (e ∷ W) = symbols e + total W
 
 pub total_applied : (c : Command) (W : List Plain) → takes c ≤ length W → total (applied c W) ≡ total W + adds c
 total_applied Empty W h = omega arith
-total_applied (Symbol low high) W h = omega arith
+total_applied (Symbol k) W h = omega arith
 total_applied Join [] h = absurd (omega arith)
 total_applied Join (b ∷ []) h = absurd (omega arith)
 total_applied Join (b ∷ a ∷ W) h = omega arith
@@ -196,7 +199,7 @@ leaves_two last k f a b W p x same spell e (l, (u, v, at, (m, (u', v', at', h, g
 pub leaves_applied : (last : ℕ) (c : Command) (W : List Plain) (p x : List ℕ) → takes c ≤ length W → (takes c ≡ 0 → length W < most) →
     Leaves last W p → Word last c x → Leaves last (applied c W) (p ++ x)
 leaves_applied last Empty W p x h few l e = leaves_more last W p x empty refl (few refl) l e
-leaves_applied last (Symbol low high) W p x h few l s = leaves_more last W p x (symbol tt low high) refl (few refl) l s
+leaves_applied last (Symbol k) W p x h few l s = leaves_more last W p x (symbol tt k.low k.high) refl (few refl) l s
 leaves_applied last Join [] p x h few l e = absurd (omega arith)
 leaves_applied last Join (b ∷ []) p x h few l e = absurd (omega arith)
 leaves_applied last Join (b ∷ a ∷ W) p x h few l e = leaves_two last 74 join a b W p x refl (λ w s. s) e l

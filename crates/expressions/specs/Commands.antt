@@ -1,11 +1,13 @@
 -- Expressions written as runs of one-byte commands, some with operands: how a run is read, and what is refused where.
-use Rattle.std.specs.Prelude.{◌≡◌, ℕ, zero, suc, ◌+◌, ◌-◌, ◌*◌, ◌<◌, ◌≤◌, max, Bool, true, false, cond, not, ◌&&◌, ◌||◌, ◌⊎◌, ◌↔◌, List, [], ◌∷◌, ◌++◌, length, drop, Some, None, Ok, Err, Option, Result, ◌==◌, ◌≢◌, nat_le, nat_lt, slice_index}
+use Rattle.std.specs.Prelude.{◌≡◌, ℕ, zero, suc, ◌+◌, ◌-◌, ◌*◌, ◌<◌, ◌≤◌, max, MatchOption, Bool, true, false, cond, not, ◌||◌, ◌⊎◌, ◌↔◌, List, [], ◌∷◌, ◌++◌, length, drop, Some, None, Ok, Err, Option, Result, ◌==◌, ◌≢◌, nat_le, nat_lt, slice_index}
 use Rattle.std.specs.Borrow.{Bor}
 use Rattle.books.specs.declared.faults.Cause.{Cause}
 use Rattle.books.specs.declared.faults.Cause.TheVariants.{Letter, Operands, Codes, TooFew, TooMany, NotOne}
 use Rattle.books.specs.declared.faults.CommandFault.{CommandFault}
+use Rattle.expressions.specs.declared.code_range.CodeRange.{CodeRange}
 use Rattle.expressions.specs.declared.command.Command.{Command}
 use Rattle.expressions.specs.declared.command.Command.TheVariants.{Empty, Symbol, Join, Either, Star, Plus, Optional}
+use Rattle.expressions.specs.CodeRange.{only, is_up_to}
 use Rattle.expressions.specs.Expression.{empty, symbol, join, either, star, plus, optional, Plain, symbols, Language, Concatenation}
 
 -- ---- one command
@@ -22,8 +24,8 @@ code_at w i = code (slice_index w i) (slice_index w (i + 1))
 abbrev pub command : ℕ → List ℕ → Option Command
 command b rest =
     cond (b == 69) (Some Empty)
-    (cond (b == 67) (Some (Symbol (code_at rest 0) (code_at rest 0)))
-    (cond (b == 82) (Some (Symbol (code_at rest 0) (code_at rest 2)))
+    (cond (b == 67) (Some (Symbol (only (code_at rest 0))))
+    (cond (b == 82) (Some (Symbol (record { low = code_at rest 0; high = code_at rest 2 })))
     (cond (b == 74) (Some Join)
     (cond (b == 65) (Some Either)
     (cond (b == 83) (Some Star) (cond (b == 80) (Some Plus) (cond (b == 79) (Some Optional) None)))))))
@@ -35,7 +37,7 @@ width b = cond (b == 67) 2 (cond (b == 82) 4 0)
 -- how many expressions a command takes
 abbrev pub takes : Command → ℕ
 takes Empty = 0
-takes (Symbol low high) = 0
+takes (Symbol codes) = 0
 takes Join = 2
 takes Either = 2
 takes Star = 1
@@ -45,7 +47,7 @@ takes Optional = 1
 -- how many symbols it adds
 abbrev pub adds : Command → ℕ
 adds Empty = 0
-adds (Symbol low high) = 1
+adds (Symbol codes) = 1
 adds Join = 0
 adds Either = 0
 adds Star = 0
@@ -55,7 +57,7 @@ adds Optional = 0
 -- its codes are at most the last one, and low is not above high
 abbrev pub in_range : ℕ → Command → Bool
 in_range last Empty = true
-in_range last (Symbol low high) = nat_le low high && nat_le high last
+in_range last (Symbol codes) = is_up_to last codes
 in_range last Join = true
 in_range last Either = true
 in_range last Star = true
@@ -86,9 +88,10 @@ abbrev pub decoded : ℕ → ℕ → ℕ → List ℕ → Result (Command × Lis
 decoded last waiting b rest = questions last waiting b rest (command b rest)
 
 -- what is behind a letter: the codes of its operands, if it has any, and the bytes behind them; or a cause, where they are not all there
-abbrev pub Behind : ℕ → List ℕ → Result (ℕ × ℕ × Bor (List ℕ)) Cause → Type 0
+abbrev pub Behind : ℕ → List ℕ → Result (Option CodeRange × Bor (List ℕ)) Cause → Type 0
 Behind b w (Ok o) =
-    (width b ≤ length w) × (o.2.now ≡ drop (width b) w) × (0 < width b → command b w ≡ Some (Symbol o.0 o.1))
+    (width b ≤ length w) × (o.1.now ≡ drop (width b) w)
+    × MatchOption o.0 (width b ≡ 0) (λ k. (0 < width b) × (command b w ≡ Some (Symbol k)))
 Behind b w (Err q) = (q ≡ Operands) × (length w < width b)
 
 -- what a step answers is what is decoded
@@ -101,7 +104,7 @@ Decodes last waiting b rest (Err q) = decoded last waiting b rest ≡ Err q
 -- what a command makes of the expressions that wait, the last one first; a command that takes more than wait leaves none
 abbrev pub applied : Command → List Plain → List Plain
 applied Empty W = empty ∷ W
-applied (Symbol low high) W = symbol tt low high ∷ W
+applied (Symbol codes) W = symbol tt codes.low codes.high ∷ W
 applied Join [] = []
 applied Join (b ∷ []) = []
 applied Join (b ∷ a ∷ W) = join a b ∷ W

@@ -2,6 +2,7 @@
 -- book that are expressions.
 pub mod Expression
 pub mod Positions
+pub mod CodeRange
 pub mod Commands
 pub mod Rules
 pub mod Tokens

@@ -1,8 +1,7 @@
 -- Rules of a book that are expressions, and why adding one is refused.
 use Rattle.std.specs.Prelude.{◌≡◌, ℕ, ◌+◌, true, cond, ◌↔◌, List, length, is_some, Some, None, Ok, Err, Option, Result, nat_eq, nat_le}
-use Rattle.states.specs.declared.state.State.{State}
+use Rattle.states.specs.Sets.{State, has, has_rule, set_of}
 use Rattle.states.specs.Words.{tally}
-use Rattle.states.specs.Sets.{has, has_rule, set_of}
 use Rattle.books.specs.Meaning.{Meaning, InForce}
 use Rattle.books.specs.declared.faults.CommandFault.{CommandFault}
 use Rattle.books.specs.declared.faults.BookFault.{BookFault}

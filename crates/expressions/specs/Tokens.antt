@@ -1,7 +1,6 @@
 -- What texts meet, and which tokens are found, told by what the expressions of the rules denote.
 use Rattle.std.specs.Prelude.{◌≡◌, ℕ, ◌<◌, ◌≤◌, true, ◌↔◌, List, length, take}
-use Rattle.states.specs.declared.rules.Rules.{Rules}
-use Rattle.states.specs.Sets.{has_rule}
+use Rattle.states.specs.Sets.{Rules, has_rule}
 use Rattle.books.specs.Meaning.{Meaning}
 use Rattle.readings.specs.Readings.{Told}
 use Rattle.readings.specs.Readings.Told.{matched, refused}

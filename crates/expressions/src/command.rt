@@ -2,13 +2,15 @@
 ghost use Rattle.std.specs.Prelude.{◌≡◌};
 ghost use Rattle.expressions.specs.Commands.{takes as takes_of, adds};
 
+use crate::code_range::CodeRange;
+
 // What a command does: it puts an expression among those that wait, or makes one of the last one or two.
 #[derive(Clone, Copy, PartialEq, Eq, Debug)]
 pub enum Command {
     // the empty string
     Empty,
-    // any one symbol whose code is from the first to the second
-    Symbol(u16, u16),
+    // any one symbol whose code is among these
+    Symbol(CodeRange),
     // the one before the last, and then the last
     Join,
     // the one before the last, or the last
@@ -27,7 +29,7 @@ impl Command {
         ensures { result ≡ takes_of self }
     {
         match self {
-            Command::Empty | Command::Symbol(_, _) => 0,
+            Command::Empty | Command::Symbol(_) => 0,
             Command::Star | Command::Plus | Command::Optional => 1,
             Command::Join | Command::Either => 2,
         }
@@ -38,7 +40,7 @@ impl Command {
         ensures { result ≡ adds self }
     {
         match self {
-            Command::Symbol(_, _) => 1,
+            Command::Symbol(_) => 1,
             _ => 0,
         }
     }

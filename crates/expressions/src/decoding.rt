@@ -1,12 +1,13 @@
 // Runs of commands: one command taken off a run, and a whole run checked.
 ghost use Rattle.std.specs.Prelude.{◌≡◌};
-ghost use Rattle.expressions.specs.Commands.{code, Behind, Decodes, read_all, counted, Judged};
+ghost use Rattle.expressions.specs.Commands.{Behind, Decodes, read_all, counted, Judged};
 
+use crate::code_range::CodeRange;
 use crate::command::Command;
 use books::{Cause, CommandFault};
 
 // At most so many expressions wait.
-const MOST: usize = 40;
+pub const MOST: usize = 40;
 
 // Checks a run of commands, over codes up to the last one, and answers how many symbols its expression has. A run that
 // spells none is refused with the cause and the offset of the first command that a question stops.
@@ -18,17 +19,14 @@ pub fn check(bytes: &[u8], last: u16) -> Result<usize, CommandFault>
     let mut waiting = 0;
     let mut symbols = 0;
     while let [letter, behind @ ..] = rest {
-        match step(*letter, behind, last, waiting) {
-            Ok((command, tail)) => {
-                waiting = waiting + 1 - command.takes();
-                symbols += command.symbols();
-                rest = tail;
-            }
-            Err(cause) => return Err(CommandFault {
-                cause,
-                place: bytes.len() - rest.len(),
-            }),
-        }
+        let place = bytes.len() - rest.len();
+        let (command, tail) = step(*letter, behind, last, waiting).map_err(|cause| CommandFault {
+            cause,
+            place,
+        })?;
+        waiting = waiting + 1 - command.takes();
+        symbols += command.symbols();
+        rest = tail;
     }
     if waiting == 1 {
         Ok(symbols)
@@ -50,46 +48,41 @@ pub fn step<'a>(
 ) -> Result<(Command, &'a [u8]), Cause>
     ensures { Decodes last waiting letter behind.now result }
 {
-    let (low, high, rest) = operands(letter, behind)?;
-    match letter {
-        b'C' | b'R' if low > high || high > last => Err(Cause::Codes),
-        b'J' | b'A' if waiting < 2 => Err(Cause::TooFew),
-        b'S' | b'P' | b'O' if waiting < 1 => Err(Cause::TooFew),
-        b'E' | b'C' | b'R' if waiting >= MOST => Err(Cause::TooMany),
-        b'E' => Ok((Command::Empty, rest)),
-        b'C' | b'R' => Ok((Command::Symbol(low, high), rest)),
-        b'J' => Ok((Command::Join, rest)),
-        b'A' => Ok((Command::Either, rest)),
-        b'S' => Ok((Command::Star, rest)),
-        b'P' => Ok((Command::Plus, rest)),
-        b'O' => Ok((Command::Optional, rest)),
+    // by letter, so that the questions and the commands stand in one table
+    let (operands, rest) = operands(letter, behind)?;
+    match (letter, operands) {
+        (b'C' | b'R', Some(codes)) if !codes.is_up_to(last) => Err(Cause::Codes),
+        (b'J' | b'A', _) if waiting < 2 => Err(Cause::TooFew),
+        (b'S' | b'P' | b'O', _) if waiting < 1 => Err(Cause::TooFew),
+        (b'E' | b'C' | b'R', _) if waiting >= MOST => Err(Cause::TooMany),
+        (b'E', _) => Ok((Command::Empty, rest)),
+        (b'C' | b'R', Some(codes)) => Ok((Command::Symbol(codes), rest)),
+        (b'J', _) => Ok((Command::Join, rest)),
+        (b'A', _) => Ok((Command::Either, rest)),
+        (b'S', _) => Ok((Command::Star, rest)),
+        (b'P', _) => Ok((Command::Plus, rest)),
+        (b'O', _) => Ok((Command::Optional, rest)),
         _ => Err(Cause::Letter),
     }
 }
 
-// The codes behind a letter, from low to high, and what is behind them. A letter without operands has 0 for both.
-fn operands<'a>(letter: u8, behind: &'a [u8]) -> Result<(u16, u16, &'a [u8]), Cause>
+// The codes behind a letter that has operands, and what is behind them. The high byte of a code stands first.
+fn operands<'a>(letter: u8, behind: &'a [u8]) -> Result<(Option<CodeRange>, &'a [u8]), Cause>
     ensures { Behind letter behind.now result }
 {
-    match letter {
-        b'C' => match behind {
-            [high, low, rest @ ..] => {
-                let only = code_of(*high, *low);
-                Ok((only, only, rest))
-            }
-            _ => Err(Cause::Operands),
-        },
-        b'R' => match behind {
-            [a, b, c, d, rest @ ..] => Ok((code_of(*a, *b), code_of(*c, *d), rest)),
-            _ => Err(Cause::Operands),
-        },
-        _ => Ok((0, 0, behind)),
+    match (letter, behind) {
+        (b'C', [high, low, rest @ ..]) => Ok((
+            Some(CodeRange::only(u16::from_be_bytes([*high, *low]))),
+            rest,
+        )),
+        (b'R', [a, b, c, d, rest @ ..]) => Ok((
+            Some(CodeRange {
+                low: u16::from_be_bytes([*a, *b]),
+                high: u16::from_be_bytes([*c, *d]),
+            }),
+            rest,
+        )),
+        (b'C' | b'R', _) => Err(Cause::Operands),
+        _ => Ok((None, behind)),
     }
-}
-
-// The code of two bytes, the high one first.
-fn code_of(high: u8, low: u8) -> u16
-    ensures { result ≡ code high low }
-{
-    (high as u16) * 256 + (low as u16)
 }

@@ -1,11 +1,13 @@
 // Expressions as runs of commands.
 #![tactic(auto)]
 
+mod code_range;
 mod command;
 mod decoding;
 
+pub use code_range::CodeRange;
 pub use command::Command;
-pub use decoding::{check, step};
+pub use decoding::{MOST, check, step};
 
 #[cfg(test)]
 mod tests {

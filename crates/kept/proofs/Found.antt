@@ -5,7 +5,7 @@ use Rattle.std.specs.List.{AllByRecursion}
 use Rattle.std.proofs.ByRecursion.{All-weaker}
 use Rattle.std.proofs.lemmas.List.{at_drop_more}
 use Rattle.std.proofs.lemmas.Bool.{both_ways, cases_Bool, and_parts, and_from, and_left, and_right, not-true, cond-true, cond-false, eqb-true, eq-eqb, ne_eqb}
-use Rattle.states.specs.declared.state.State.{State}
+use Rattle.states.specs.Sets.{State}
 use Rattle.states.specs.Sets.{same}
 use Rattle.states.proofs.Members.{same_true, same_self}
 use Rattle.kept.specs.Steps.{Step, step, from, found, distinct}

@@ -4,7 +4,7 @@ use Rattle.std.specs.List.{AllByRecursion}
 use Rattle.std.proofs.ByRecursion.{All-push}
 use Rattle.std.proofs.lemmas.List.{length_push}
 use Rattle.std.proofs.lemmas.Bool.{both_ways, cases_Bool, cases_lt, or_left, or_right, or_from, cond-true, cond-false, le-leb, lt-leb}
-use Rattle.states.specs.declared.state.State.{State}
+use Rattle.states.specs.Sets.{State}
 use Rattle.kept.specs.Steps.{Step, from, found, distinct, most, keep}
 use Rattle.kept.proofs.Found.{none_from_is_some, from_self, found_here, found_append_some, found_append_none, found_push_other, distinct_push}
 

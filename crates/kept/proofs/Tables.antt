@@ -1,6 +1,6 @@
 -- The steps of a table: how many there are, and that no two are from the same state by the same code. Assumes nothing.
 use Rattle.std.proofs.Common.{◌≡◌, ℕ, ◌<◌, ◌≤◌, true, List, [], ◌∷◌, ◌++◌, length, get_or, vec_items, vec_len, sym, ◌∙◌, arith}
-use Rattle.states.specs.declared.state.State.{State}
+use Rattle.states.specs.Sets.{State}
 use Rattle.kept.specs.declared.kept.Kept.{Kept}
 use Rattle.kept.specs.Steps.{Step, distinct, most, step, zipped}
 use Rattle.kept.specs.Tables.{steps}

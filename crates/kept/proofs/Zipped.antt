@@ -1,6 +1,6 @@
 -- Steps whose parts stand in three lists of one length. Assumes nothing.
 use Rattle.std.proofs.Common.{◌≡◌, ℕ, zero, suc, ◌+◌, ◌<◌, ◌≤◌, Bool, true, false, not, List, [], ◌∷◌, ◌++◌, length, get_or, take, set, filter, sym, refl, ap, ◌∙◌, subst, arith}
-use Rattle.states.specs.declared.state.State.{State}
+use Rattle.states.specs.Sets.{State}
 use Rattle.states.specs.Sets.{nothing}
 use Rattle.std.proofs.lemmas.List.{get_or_read, get_or_default}
 use Rattle.std.proofs.lemmas.List.Filters.{length-filter_both, FiltersInPlace, FiltersInPlace-more_set, FiltersInPlace-more_no}

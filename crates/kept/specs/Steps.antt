@@ -1,6 +1,6 @@
 -- Steps from state to state, and lists of them in which no state and code come twice.
 use Rattle.std.specs.Prelude.{ℕ, Bool, true, cond, not, ◌&&◌, ◌||◌, List, [], ◌∷◌, ◌++◌, length, is_some, Some, None, Option, ◌==◌, nat_le}
-use Rattle.states.specs.declared.state.State.{State}
+use Rattle.states.specs.Sets.{State}
 use Rattle.states.specs.Sets.{same}
 
 -- From `state` the code leads to `next`.

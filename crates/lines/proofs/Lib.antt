@@ -1,6 +1,6 @@
 pub mod Decoding
 pub mod Leading
-mod Pairs
+mod HexText
+mod Numerals
 pub mod Parting
-mod Refusing
 mod Words

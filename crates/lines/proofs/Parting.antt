@@ -1,14 +1,6 @@
 -- Bytes are parted at a mark in one way only.
-use Rattle.std.proofs.Common.{◌≡◌, ℕ, ◌+◌, ◌-◌, ◌<◌, List, [], ◌∷◌, ◌++◌, length, get_or, take, drop, Some, None, Option, sym, refl, ap, ◌∙◌, arith, take-append-drop}
-use native.Mathlib.Nat.{sub-zero}
-use Rattle.std.proofs.lemmas.List.{drop_more, take_rest}
+use Rattle.std.proofs.Common.{◌≡◌, ℕ, List, [], ◌∷◌, ◌++◌, Some, None, Option, sym, refl, ap, ◌∙◌, arith}
 use Rattle.lines.specs.Parts.{Lacks, Parts}
-
--- where no mark stands before an index, and one at it, the bytes are parted there
-pub parted_at : (mark : ℕ) (t : List ℕ) (i : ℕ) → i < length t → get_or t i 0 ≡ mark → Lacks mark (take i t) → Parts mark t (take (i - 0) t) (Some (take (length t - (i + 1)) (drop (i + 1) t)))
-parted_at mark t i h e k =
-    rw (sub-zero)
-    (k, sym (take-append-drop i t) ∙ ap (λ u. take i t ++ u) (drop_more t i 0 h ∙ ap (λ x. x ∷ drop (i + 1) t) e ∙ ap (λ u. mark ∷ u) (sym (take_rest t (i + 1)))))
 
 module _ (mark : ℕ) where
   -- bytes without a mark are not parted

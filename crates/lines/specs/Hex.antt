@@ -2,8 +2,10 @@
 use Rattle.std.specs.Prelude.{◌≡◌, ℕ, ◌+◌, ◌*◌, ◌<◌, List, [], ◌∷◌, Ok, Err, vec_items, Result, Vec}
 use Rattle.std.specs.Char.{digit_value}
 use Rattle.std.specs.declared.alloc.Global.{Global}
-use Rattle.lines.specs.declared.hex.NoBytes.{NoBytes}
-use Rattle.lines.specs.declared.hex.NoBytes.TheVariants.{NotHex, NoMemory}
+use Rattle.hex.specs.declared.error.FromHexError.{FromHexError}
+use Rattle.hex.specs.declared.error.FromHexError.TheVariants.{InvalidHexCharacter, InvalidStringLength, OddLength, OutOfMemory}
+use Rattle.lines.specs.declared.hex_pairs.NoBytes.{NoBytes}
+use Rattle.lines.specs.declared.hex_pairs.NoBytes.TheVariants.{NotHex, NoMemory}
 
 -- two hex digits
 abbrev pub Pair : ℕ → ℕ → Type 0
@@ -26,3 +28,10 @@ abbrev pub Decodes : List ℕ → Result (Vec ℕ Global) NoBytes → Type 0
 Decodes digits (Ok bytes) = Hex digits × (vec_items bytes ≡ written digits)
 Decodes digits (Err NotHex) = Hex digits → ⊥
 Decodes digits (Err NoMemory) = Unit {0}
+
+-- why text that is not decoded gives no bytes
+abbrev pub no_bytes : FromHexError → NoBytes
+no_bytes OutOfMemory = NoMemory
+no_bytes OddLength = NotHex
+no_bytes (InvalidHexCharacter c index) = NotHex
+no_bytes InvalidStringLength = NotHex

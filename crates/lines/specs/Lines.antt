@@ -1,8 +1,10 @@
 -- Which lines spell which command.
-use Rattle.std.specs.Prelude.{◌≡◌, ℕ, List, [], ◌∷◌, ◌++◌, Some, None, codes, Option, Result, MatchResult}
+use Rattle.std.specs.Prelude.{◌≡◌, ◌≢◌, ℕ, List, [], ◌∷◌, ◌++◌, Some, None, codes, Option, Result, MatchResult}
+use Rattle.std.specs.Option.{option_copied}
 use Rattle.std.specs.Borrow.{Bor}
 use Rattle.lines.specs.Numerals.{Number, Number32}
 use Rattle.lines.specs.Hex.{Hex}
+use Rattle.lines.specs.declared.arguments.Behind.{Behind}
 use Rattle.lines.specs.declared.command.BookName.{BookName}
 use Rattle.lines.specs.declared.command.BookName.TheVariants.{Numbers, Templates, Expressions, Events}
 use Rattle.lines.specs.declared.command.Expected.{Expected}
@@ -46,6 +48,18 @@ spelling word.Kind = codes "kind"
 spelling word.Tally = codes "tally"
 spelling word.Edition = codes "edition"
 spelling word.Note = codes "note"
+
+-- what reading the name of a book answers
+abbrev pub IsBook : List ℕ → Result BookName Expected → Type 0
+IsBook name r = MatchResult r (λ b. name ≡ book_word b) (λ _. (b : BookName) → name ≢ book_word b)
+
+-- what reading the first word of a command answers
+abbrev pub IsWord : List ℕ → Result Word Expected → Type 0
+IsWord first r = MatchResult r (λ w. first ≡ spelling w) (λ _. (w : Word) → first ≢ spelling w)
+
+-- what stands behind a word, if there is a space behind it
+abbrev pub behind : Behind → Option (List ℕ)
+behind b = option_copied b.0
 
 -- a first word, and what stands behind it and a space, if there is a space
 abbrev pub joined : List ℕ → Option (List ℕ) → List ℕ

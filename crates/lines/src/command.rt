@@ -1,6 +1,8 @@
 // What a line can ask for, and what is expected of a line that asks for nothing.
-ghost use Rattle.std.specs.Prelude.{◌≡◌};
-ghost use Rattle.lines.specs.Lines.{book_word, expected_text};
+ghost use Rattle.std.specs.Prelude.{◌≡◌, Some};
+ghost use Rattle.lines.specs.Lines.{IsBook, book_word, expected_text};
+
+use std::fmt;
 
 // A command and its arguments. Hex digits stay as the line has them.
 #[derive(Clone, Copy, Debug)]
@@ -114,6 +116,34 @@ impl BookName {
     }
 }
 
+impl fmt::Display for BookName {
+    ghost output = { λ b. Some (book_word b) };
+
+    fn fmt<W: fmt::Write>(&self, f: &mut fmt::Formatter<W>) -> fmt::Result {
+        f.write_str(self.word())
+    }
+}
+
+// The book of a name.
+impl TryFrom<&[u8]> for BookName {
+    type Error = Expected;
+
+    ghost try_from_gives = { λ name r. IsBook name.now r };
+
+    fn try_from(name: &[u8]) -> Result<BookName, Expected> {
+        let Ok(name) = std::str::from_utf8(name) else {
+            return Err(Expected::Book);
+        };
+        match name {
+            "numbers" => Ok(BookName::Numbers),
+            "templates" => Ok(BookName::Templates),
+            "expressions" => Ok(BookName::Expressions),
+            "events" => Ok(BookName::Events),
+            _ => Err(Expected::Book),
+        }
+    }
+}
+
 impl Expected {
     // In words, for a report.
     pub fn text(self) -> &'static str
@@ -133,5 +163,13 @@ impl Expected {
             Expected::Cursor => "a cursor",
             Expected::Walk => "a walk",
         }
+    }
+}
+
+impl fmt::Display for Expected {
+    ghost output = { λ e. Some (expected_text e) };
+
+    fn fmt<W: fmt::Write>(&self, f: &mut fmt::Formatter<W>) -> fmt::Result {
+        f.write_str(self.text())
     }
 }

@@ -1,7 +1,7 @@
 // Decimal numbers of 32 bits.
+ghost use Rattle.std.specs.Prelude.{Decides};
+ghost use Rattle.std.specs.Str.Parse.{IsNumeral};
 ghost use Rattle.lines.specs.Numerals.{Reads};
-
-const LAST: u64 = 4_294_967_295;
 
 // Why bytes are no decimal number of 32 bits.
 #[derive(Clone, Copy, PartialEq, Eq, Debug)]
@@ -16,20 +16,19 @@ pub enum NoDecimal {
 pub fn decimal(digits: &[u8]) -> Result<u32, NoDecimal>
     ensures { Reads digits.now result }
 {
-    if digits.is_empty() {
+    // `parse` alone would take a sign, and tells a number that is too large before a later byte that is no digit
+    if !is_numeral(digits) {
         return Err(NoDecimal::NoDigits);
     }
-    let mut value = 0;
-    for byte in digits {
-        let Some(digit) = char::from(*byte).to_digit(10) else {
-            return Err(NoDecimal::NoDigits);
-        };
-        // what is above the last number stays above it
-        value = (value * 10 + u64::from(digit)).min(LAST + 1);
-    }
-    if value > LAST {
-        Err(NoDecimal::TooLarge)
-    } else {
-        Ok(value as u32)
-    }
+    let Ok(text) = std::str::from_utf8(digits) else {
+        return Err(NoDecimal::NoDigits);
+    };
+    text.parse::<u32>().map_err(|_| NoDecimal::TooLarge)
+}
+
+// Whether the bytes are decimal digits, at least one.
+fn is_numeral(digits: &[u8]) -> bool
+    ensures { Decides result (IsNumeral 10 digits.now) }
+{
+    !digits.is_empty() && digits.iter().all(|digit| digit.is_ascii_digit())
 }

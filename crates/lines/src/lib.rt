@@ -4,7 +4,7 @@
 mod arguments;
 mod command;
 mod decimals;
-mod hex;
+mod hex_pairs;
 mod parsing;
 mod parts;
 mod word;
@@ -12,6 +12,6 @@ mod word;
 pub use arguments::saturated;
 pub use command::{BookName, Command, Expected, Order, Task};
 pub use decimals::{NoDecimal, decimal};
-pub use hex::{NoBytes, bytes_of, is_hex};
+pub use hex_pairs::{NoBytes, bytes_of, is_hex};
 pub use parsing::{is_skipped, parse};
 pub use parts::{NEWLINE, Parted, part};

@@ -1,23 +1,17 @@
 // Which command a line spells.
-ghost use Rattle.std.specs.Option.{option_map};
 ghost use Rattle.std.specs.Prelude.{Decides};
-ghost use Rattle.lines.specs.Lines.{Answers, Makes, Parses, Skipped};
+ghost use Rattle.lines.specs.Lines.{Answers, AsHex, AsText, Makes, Parses, Skipped, behind};
 
-use crate::arguments::{
-    add, alone, code, cursor, cursor_hex, delete, hex, kind, new_reader, plain,
-};
+use crate::arguments::Behind;
 use crate::command::{Command, Expected, Order, Task};
 use crate::parts::{Parted, SPACE, part};
-use crate::word::{Word, word_of};
+use crate::word::Word;
 
 // Whether a line is empty or a comment, which no session runs.
 pub fn is_skipped(line: &[u8]) -> bool
     ensures { Decides result (Skipped line.now) }
 {
-    match line {
-        [] => true,
-        [first, ..] => *first == b'#',
-    }
+    matches!(line, [] | [b'#', ..])
 }
 
 // The command that a line spells.
@@ -25,35 +19,72 @@ pub fn parse(line: &[u8]) -> Result<Command<'_>, Expected>
     ensures { Answers line.now result }
 {
     let Parted { first, rest } = part(line, SPACE);
-    let Some(word) = word_of(first) else {
-        return Err(Expected::Command);
-    };
-    with_arguments(word, rest)
+    let word = Word::try_from(first)?;
+    with_arguments(word, Behind(rest))
 }
 
 // The command that a word and what stands behind it make.
-fn with_arguments(word: Word, rest: Option<&[u8]>) -> Result<Command<'_>, Expected>
-    ensures { Parses (Makes word (option_map (λ x. x.now) rest.entry)) result }
+fn with_arguments<'a>(word: Word, rest: Behind<'a>) -> Result<Command<'a>, Expected>
+    ensures { Parses (Makes word (behind rest.entry)) result }
 {
     match word {
-        Word::New => new_reader(rest),
-        Word::Add => add(rest),
-        Word::Code => code(rest),
-        Word::Delete => delete(rest),
-        Word::Read => plain(Task::Read, rest),
-        Word::ReadHex => hex(Task::Read, rest),
-        Word::Cursor => cursor(rest),
-        Word::CursorHex => cursor_hex(rest),
-        Word::Feed => plain(Task::Feed, rest),
-        Word::FeedHex => hex(Task::Feed, rest),
-        Word::Token => alone(Command::Order(Order::Token), rest),
-        Word::Peek => alone(Command::Order(Order::Peek), rest),
-        Word::Last => alone(Command::Last, rest),
-        Word::Walk => alone(Command::Order(Order::Walk), rest),
-        Word::Finish => alone(Command::Order(Order::Finish), rest),
-        Word::Kind => kind(rest),
-        Word::Tally => alone(Command::Order(Order::Tally), rest),
-        Word::Edition => alone(Command::Order(Order::Edition), rest),
-        Word::Note => alone(Command::Order(Order::Note), rest),
+        Word::New => rest.new_reader(),
+        Word::Add => {
+            let rule = rest.leading()?;
+            let kind = rule.behind.leading()?;
+            let text = kind.behind.text()?;
+            Ok(Command::Add {
+                rule: rule.number,
+                kind: kind.number,
+                text,
+            })
+        }
+        Word::Code => {
+            let rule = rest.leading()?;
+            let kind = rule.behind.leading()?;
+            let digits = kind.behind.hex_digits()?;
+            Ok(Command::Code {
+                rule: rule.number,
+                kind: kind.number,
+                digits,
+            })
+        }
+        Word::Delete => rest.number().map(|rule| Command::Delete(rule)),
+        Word::Read => as_text(rest, Task::Read),
+        Word::ReadHex => as_hex(rest, Task::Read),
+        Word::Cursor => {
+            let place = rest.leading()?;
+            as_text(place.behind, Task::Cursor(place.number))
+        }
+        Word::CursorHex => {
+            let place = rest.leading()?;
+            as_hex(place.behind, Task::Cursor(place.number))
+        }
+        Word::Feed => as_text(rest, Task::Feed),
+        Word::FeedHex => as_hex(rest, Task::Feed),
+        Word::Token => rest.alone(Command::Order(Order::Token)),
+        Word::Peek => rest.alone(Command::Order(Order::Peek)),
+        Word::Last => rest.alone(Command::Last),
+        Word::Walk => rest.alone(Command::Order(Order::Walk)),
+        Word::Finish => rest.alone(Command::Order(Order::Finish)),
+        Word::Kind => rest.number().map(|rule| Command::Order(Order::Kind(rule))),
+        Word::Tally => rest.alone(Command::Order(Order::Tally)),
+        Word::Edition => rest.alone(Command::Order(Order::Edition)),
+        Word::Note => rest.alone(Command::Order(Order::Note)),
     }
+}
+
+// What is done with a text as it stands.
+fn as_text<'a>(rest: Behind<'a>, task: Task) -> Result<Command<'a>, Expected>
+    ensures { Parses (AsText (Command.Plain task) (behind rest.entry)) result }
+{
+    rest.text().map(|text| Command::Plain { task, text })
+}
+
+// What is done with a text in hex digits.
+fn as_hex<'a>(rest: Behind<'a>, task: Task) -> Result<Command<'a>, Expected>
+    ensures { Parses (AsHex (Command.Hex task) (behind rest.entry)) result }
+{
+    rest.hex_digits()
+        .map(|digits| Command::Hex { task, digits })
 }

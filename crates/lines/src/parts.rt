@@ -3,6 +3,8 @@ ghost use Rattle.std.specs.Prelude.{◌≡◌};
 ghost use Rattle.std.specs.Option.{option_map};
 ghost use Rattle.lines.specs.Parts.{Parts};
 
+use memchr::memchr;
+
 // Ends a line.
 pub const NEWLINE: u8 = b'\n';
 
@@ -19,16 +21,14 @@ pub struct Parted<'a> {
 pub fn part(bytes: &[u8], mark: u8) -> Parted<'_>
     ensures { Parts mark bytes.now result.first.now (option_map (λ x. x.now) result.rest) }
 {
-    for (i, byte) in bytes.iter().enumerate() {
-        if *byte == mark {
-            return Parted {
-                first: &bytes[0..i],
-                rest: Some(&bytes[i + 1..]),
-            };
-        }
-    }
-    Parted {
-        first: bytes,
-        rest: None,
+    match memchr(mark, bytes) {
+        Some(i) => Parted {
+            first: &bytes[..i],
+            rest: Some(&bytes[i + 1..]),
+        },
+        None => Parted {
+            first: bytes,
+            rest: None,
+        },
     }
 }

@@ -1,7 +1,7 @@
 // The words that commands begin with.
-ghost use Rattle.std.specs.Prelude.{◌≡◌, MatchOption, ◌≢◌};
-ghost use Rattle.lines.specs.Lines.{spelling};
-ghost use Rattle.lines.specs.declared.word.Word.{Word};
+ghost use Rattle.lines.specs.Lines.{IsWord};
+
+use crate::command::Expected;
 
 // The first word of a command, by its own name.
 #[derive(Clone, Copy, PartialEq, Eq, Debug)]
@@ -27,33 +27,37 @@ pub(crate) enum Word {
     Note,
 }
 
-// The word that the bytes spell, if they spell one.
-pub(crate) fn word_of(bytes: &[u8]) -> Option<Word>
-    ensures { MatchOption result ((w : Word) → bytes.now ≢ spelling w) (λ w. bytes.now ≡ spelling w) }
-{
-    let Ok(text) = std::str::from_utf8(bytes) else {
-        return None;
-    };
-    match text {
-        "new" => Some(Word::New),
-        "add" => Some(Word::Add),
-        "code" => Some(Word::Code),
-        "delete" => Some(Word::Delete),
-        "read" => Some(Word::Read),
-        "readx" => Some(Word::ReadHex),
-        "cursor" => Some(Word::Cursor),
-        "cursorx" => Some(Word::CursorHex),
-        "feed" => Some(Word::Feed),
-        "feedx" => Some(Word::FeedHex),
-        "token" => Some(Word::Token),
-        "peek" => Some(Word::Peek),
-        "last" => Some(Word::Last),
-        "walk" => Some(Word::Walk),
-        "finish" => Some(Word::Finish),
-        "kind" => Some(Word::Kind),
-        "tally" => Some(Word::Tally),
-        "edition" => Some(Word::Edition),
-        "note" => Some(Word::Note),
-        _ => None,
+// The word that the bytes spell.
+impl TryFrom<&[u8]> for Word {
+    type Error = Expected;
+
+    ghost try_from_gives = { λ bytes r. IsWord bytes.now r };
+
+    fn try_from(bytes: &[u8]) -> Result<Word, Expected> {
+        let Ok(text) = std::str::from_utf8(bytes) else {
+            return Err(Expected::Command);
+        };
+        match text {
+            "new" => Ok(Word::New),
+            "add" => Ok(Word::Add),
+            "code" => Ok(Word::Code),
+            "delete" => Ok(Word::Delete),
+            "read" => Ok(Word::Read),
+            "readx" => Ok(Word::ReadHex),
+            "cursor" => Ok(Word::Cursor),
+            "cursorx" => Ok(Word::CursorHex),
+            "feed" => Ok(Word::Feed),
+            "feedx" => Ok(Word::FeedHex),
+            "token" => Ok(Word::Token),
+            "peek" => Ok(Word::Peek),
+            "last" => Ok(Word::Last),
+            "walk" => Ok(Word::Walk),
+            "finish" => Ok(Word::Finish),
+            "kind" => Ok(Word::Kind),
+            "tally" => Ok(Word::Tally),
+            "edition" => Ok(Word::Edition),
+            "note" => Ok(Word::Note),
+            _ => Err(Expected::Command),
+        }
     }
 }

@@ -3,7 +3,7 @@ use Rattle.std.proofs.Common.{◌≡◌, ℕ, ◌+◌, ◌<◌, ◌≤◌, Bool,
 use mathlib.Core.Bool.{or_comm}
 use Rattle.std.proofs.lemmas.Bool.{cases_Bool, and_parts, and_from, and_left, and_right, leb-true, le-leb}
 use Rattle.std.proofs.lemmas.Bool.Decides.{nat_tests}
-use Rattle.states.specs.declared.state.State.{State}
+use Rattle.states.specs.Sets.{State}
 use Rattle.states.specs.Words.{some}
 use Rattle.states.specs.Sets.{has, set_of}
 use Rattle.states.proofs.Members.{has_set_of, same_words}
@@ -15,10 +15,10 @@ pub record Right (p : ℕ) (r : Row) : Type 0 where
   pub codes : (c : ℕ) → takes p c ≡ (leb r.low c && leb c r.high)
   pub after : r.follow ≡ set_of (follows p)
 
--- a row is known by its codes and its two words
+-- a row is known by its codes and its words
 pub row_right : {a b : Row} (p : ℕ) → a ≡ b → ((c : ℕ) → takes p c ≡ (leb b.low c && leb c b.high))
-    → b.follow.low ≡ (set_of (follows p)).low → b.follow.high ≡ (set_of (follows p)).high → Right p a
-row_right p e codes low high = subst (Right p) (sym e) (record { codes = codes; after = same_words _ _ low high })
+    → b.follow.words ≡ (set_of (follows p)).words → Right p a
+row_right p e codes words = subst (Right p) (sym e) (record { codes = codes; after = same_words _ _ words })
 
 -- from a number to itself lies that number alone
 pub one_code : (n c : ℕ) → eqb c n ≡ (leb n c && leb c n)

@@ -18,46 +18,41 @@ const TABLE: [Row; 6] = [
         low: b'0',
         high: b'9',
         follow: State {
-            low: 0b101011,
-            high: 0,
+            words: [0b101011, 0, 0, 0],
         },
     },
     Row {
         low: b'.',
         high: b'.',
         follow: State {
-            low: 0b000100,
-            high: 0,
+            words: [0b000100, 0, 0, 0],
         },
     },
     Row {
         low: b'0',
         high: b'9',
         follow: State {
-            low: 0b101100,
-            high: 0,
+            words: [0b101100, 0, 0, 0],
         },
     },
     Row {
         low: b'm',
         high: b'm',
         follow: State {
-            low: 0b010000,
-            high: 0,
+            words: [0b010000, 0, 0, 0],
         },
     },
     Row {
         low: b'm',
         high: b'm',
         follow: State {
-            low: 0b100000,
-            high: 0,
+            words: [0b100000, 0, 0, 0],
         },
     },
     Row {
         low: 1,
         high: 0,
-        follow: State { low: 0, high: 0 },
+        follow: State { words: [0; 4] },
     },
 ];
 

@@ -1,5 +1,6 @@
 mod Puts
-mod Scans
-mod Spanned
+mod Spans
+mod Ends
 mod Running
+mod Written
 mod Readings

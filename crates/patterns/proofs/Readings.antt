@@ -1,7 +1,8 @@
--- How the reading of a text goes on, mark by mark.
-use Rattle.std.proofs.Common.{◌≡◌, ℕ, zero, suc, ◌-◌, ◌<◌, ◌≤◌, List, [], ◌∷◌, length, drop, Ok, Err, sym, refl, ap, ◌∙◌, arith, length-drop, Bor}
+-- How the reading of a text goes on, mark by mark: what the functions of the grammar, which are still to come, stand on.
+use Rattle.std.proofs.Common.{◌≡◌, ℕ, zero, suc, ◌-◌, ◌<◌, ◌≤◌, List, [], ◌∷◌, length, drop, Ok, Err, sym, refl, ap, ◌∙◌, arith, length-drop}
 use Rattle.patterns.specs.declared.faults.PatternFault.{PatternFault}
 use Rattle.patterns.specs.declared.marks.Mark.{Mark}
+use Rattle.patterns.specs.declared.text.Text.{Text}
 use Rattle.patterns.specs.Marks.{Part, plain, escape, class, sign, width, cut, part_of, Marked}
 use Rattle.patterns.specs.Reading.{Level, Open, step, turn, onward, read, finished}
 
@@ -48,12 +49,12 @@ module _ (size : ℕ) (l : Level) (os : List Open) where
   read_end = refl
 
   -- the same of a mark that the code tells
-  pub marked_on : (t : List ℕ) (m : Mark) (u : Bor (List ℕ)) (l' : Level) (os' : List Open) → 0 < length t → Marked (size - length t) t (Ok (m, u))
-      → step (size - length t) (part_of m) l os ≡ Ok (l', os') → read size l os 0 t ≡ read size l' os' 0 u.now
+  pub marked_on : (t : List ℕ) (m : Mark) (u : Text) (l' : Level) (os' : List Open) → 0 < length t → Marked (size - length t) t (Ok (m, u))
+      → step (size - length t) (part_of m) l os ≡ Ok (l', os') → read size l os 0 t ≡ read size l' os' 0 u.bytes.now
   marked_on [] m u l' os' h k s = absurd (omega arith)
   marked_on (b ∷ t) m u l' os' h k s = read_mark b t (part_of m) l' os' k.0 s ∙ ap (read size l' os' 0) (sym k.1)
 
-  pub marked_no : (t : List ℕ) (m : Mark) (u : Bor (List ℕ)) (f : PatternFault) → 0 < length t → Marked (size - length t) t (Ok (m, u))
+  pub marked_no : (t : List ℕ) (m : Mark) (u : Text) (f : PatternFault) → 0 < length t → Marked (size - length t) t (Ok (m, u))
       → step (size - length t) (part_of m) l os ≡ Err f → read size l os 0 t ≡ Err f
   marked_no [] m u f h k s = absurd (omega arith)
   marked_no (b ∷ t) m u f h k s = read_refused b t (part_of m) f k.0 s
@@ -63,7 +64,7 @@ module _ (size : ℕ) (l : Level) (os : List Open) where
   unmarked_no (b ∷ t) f h k = read_uncut b t f k
 
 -- what is behind a mark is shorter
-pub marked_shorter : (p : ℕ) (t : List ℕ) (m : Mark) (u : Bor (List ℕ)) → 0 < length t → Marked p t (Ok (m, u)) → length u.now < length t
+pub marked_shorter : (p : ℕ) (t : List ℕ) (m : Mark) (u : Text) → 0 < length t → Marked p t (Ok (m, u)) → length u.bytes.now < length t
 marked_shorter p [] m u h k = absurd (omega arith)
 marked_shorter p (b ∷ t) m u h k =
     let w = wide (part_of m) in

@@ -1,12 +1,13 @@
 -- Classes: the members of a body, the ranges that they make, the set of bytes, and its longest runs.
-use Rattle.std.specs.Prelude.{◌≡◌, ℕ, zero, suc, ◌-◌, ◌<◌, Bool, true, false, cond, not, ◌&&◌, ◌||◌, List, [], ◌∷◌, length, drop, Some, None, Ok, Err, Option, Result, ◌==◌, nat_le, nat_lt}
-use Rattle.std.specs.Borrow.{Bor}
-use Rattle.states.specs.declared.state.State.{State}
+use Rattle.std.specs.Prelude.{◌≡◌, ℕ, zero, suc, ◌+◌, ◌-◌, ◌<◌, Bool, true, false, cond, not, ◌&&◌, ◌||◌, List, [], ◌∷◌, length, reverse, drop, Some, None, Ok, Err, Option, Result, ◌==◌, nat_le, nat_lt}
+use Rattle.states.specs.Sets.{State}
 use Rattle.states.specs.Sets.{has}
 use Rattle.patterns.specs.declared.faults.PatternFault.{PatternFault}
 use Rattle.patterns.specs.declared.faults.PatternFault.TheVariants.{FallingRange}
-use Rattle.patterns.specs.declared.classes.Member.{Member}
-use Rattle.patterns.specs.declared.classes.Run.{Run}
+use Rattle.patterns.specs.declared.members.Member.{Member}
+use Rattle.patterns.specs.declared.members.Members.{Members}
+use Rattle.patterns.specs.declared.runs.Run.{Run}
+use Rattle.patterns.specs.declared.runs.Runs.{Runs}
 use Rattle.patterns.specs.declared.classes.Held.{Held}
 use Rattle.patterns.specs.declared.classes.Held.TheVariants as held
 
@@ -17,6 +18,10 @@ members end (b ∷ []) = record { value = b; place = end - 1; bare = true } ∷ 
 members end (b ∷ c ∷ t) =
     cond (b == 92) (record { value = c; place = end - suc (suc (length t)); bare = false } ∷ members end t)
     (record { value = b; place = end - suc (suc (length t)); bare = true } ∷ members end (c ∷ t))
+
+-- the members that are still to come
+abbrev pub members_left : Members → List Member
+members_left m = members (m.0.place + length m.0.bytes.now) m.0.bytes.now
 
 -- from one member to another
 pub record Span : Type 0 where
@@ -54,11 +59,6 @@ pending held.Nothing = []
 pending (held.Member m) = m ∷ []
 pending (held.Dash a d) = a ∷ d ∷ []
 
--- the first member of a text, and what is behind it
-abbrev pub FirstMember : ℕ → List ℕ → Option (Member × Bor (List ℕ)) → Type 0
-FirstMember end t None = t ≡ []
-FirstMember end t (Some m) = (members end t ≡ m.0 ∷ members end m.1.now) × (length m.1.now < length t)
-
 -- the set that a body tells, or the refusal of its first falling range
 abbrev pub ClassRead : ℕ → List ℕ → Result State PatternFault → Type 0
 ClassRead end body (Ok s) = (falling (spans (members end body)) ≡ None) × ((x : ℕ) → has s x ≡ covers (spans (members end body)) x)
@@ -79,22 +79,21 @@ inner body = cond (negated body) (drop 1 body) body
 abbrev pub in_class : ℕ → List ℕ → ℕ → Bool
 in_class end body x = cond (negated body) (not (covers (spans (members end (inner body))) x)) (covers (spans (members end (inner body))) x)
 
+-- the bytes of a class whose body ends at the place `end`, or the refusal of its first falling range
+abbrev pub BytesRead : ℕ → List ℕ → Result State PatternFault → Type 0
+BytesRead end body (Ok s) = (falling (spans (members end (inner body))) ≡ None) × ((x : ℕ) → x < 256 → has s x ≡ in_class end body x)
+BytesRead end body (Err f) = (p : ℕ) × (falling (spans (members end (inner body))) ≡ Some p) × (f ≡ FallingRange p)
+
 -- a number right behind the last run makes it longer, and another is a run of its own
 abbrev pub grown : ℕ → List Run → List Run
 grown n [] = record { low = n; high = n } ∷ []
 grown n (r ∷ rs) = cond (suc r.high == n) (record { low = r.low; high = n } ∷ rs) (record { low = n; high = n } ∷ r ∷ rs)
 
 -- the longest runs of numbers below n that pass f, the last one first
-abbrev pub runs : (ℕ → Bool) → ℕ → List Run
+unfoldable pub runs : (ℕ → Bool) → ℕ → List Run
 runs f zero = []
 runs f (suc n) = cond (f n) (grown n (runs f n)) (runs f n)
 
--- a body's members' part and whether '^' stands before it
-abbrev pub Inner : List ℕ → List ℕ → Bool → Type 0
-Inner body ms others = (ms ≡ inner body) × (others ≡ negated body)
-
--- the last run, which a number may make longer, or else ends
-abbrev pub Grows : ℕ → Option Run → Option Run → Run → Type 0
-Grows n None ended run = (ended ≡ None) × (run ≡ record { low = n; high = n })
-Grows n (Some r) ended run =
-    cond (suc r.high == n) ((ended ≡ None) × (run ≡ record { low = r.low; high = n })) ((ended ≡ Some r) × (run ≡ record { low = n; high = n }))
+-- the runs that are still to come
+abbrev pub runs_left : Runs → List Run
+runs_left r = reverse (runs (has r.0) 256)

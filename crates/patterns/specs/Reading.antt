@@ -1,13 +1,13 @@
 -- How a pattern text is read: mark by mark, from left to right, with the expressions that it has given so far.
-use Rattle.std.specs.Prelude.{◌≡◌, ℕ, zero, suc, ◌+◌, ◌-◌, Bool, true, false, cond, ◌||◌, List, [], ◌∷◌, ◌++◌, map, length, Some, None, Ok, Err, Option, Result, ◌==◌, nat_lt}
+use Rattle.std.specs.Prelude.{◌≡◌, ℕ, zero, suc, ◌+◌, ◌-◌, Bool, cond, ◌||◌, List, [], ◌∷◌, ◌++◌, map, length, Some, None, Ok, Err, Option, Result, ◌==◌, nat_lt}
 use Rattle.expressions.specs.Expression.{Expr, empty, symbol, join, either, star, plus, optional}
 use Rattle.patterns.specs.declared.faults.PatternFault.{PatternFault}
 use Rattle.patterns.specs.declared.faults.PatternFault.TheVariants.{FallingRange, EmptyClass, NoAtom, Unbalanced, TooDeep, Reserved}
 use Rattle.patterns.specs.declared.marks.Repeat.{Repeat}
 use Rattle.patterns.specs.declared.marks.Repeat.TheVariants.{Star, Plus, Optional}
 use Rattle.patterns.specs.Marks.{Part, plain, escape, class, sign, width, cut, repeat_of}
-use Rattle.patterns.specs.declared.classes.Run.{Run}
-use Rattle.patterns.specs.declared.sink.Filled.{Filled}
+use Rattle.patterns.specs.declared.runs.Run.{Run}
+use Rattle.patterns.specs.declared.sink.Sink.{Sink}
 use Rattle.patterns.specs.Buffers.{Adds}
 use Rattle.patterns.specs.Classes.{members, spans, falling, inner, in_class, runs}
 
@@ -167,20 +167,12 @@ read size l os (suc k) (b ∷ t) = read size l os k t
 
 -- ---- what is put into a buffer
 
-abbrev pub nonempty : {A : Type 0} → List A → Bool
-nonempty [] = false
-nonempty (x ∷ xs) = true
-
--- the A behind a run, if there are others before it
-abbrev pub behind_first : Bool → List ℕ
-behind_first more = cond more (65 ∷ []) []
-
 -- the commands of runs, the last one first
 abbrev pub runs_written : List Run → List ℕ
 runs_written [] = []
 runs_written (r ∷ rs) = written (together either (map ranged (r ∷ rs)))
 
--- The commands of the class at the place p are put into the buffer, or it is refused.
-abbrev pub ClassPut : ℕ → List ℕ → List ℕ → Filled → List ℕ → Filled → Result (Unit {0}) PatternFault → Type 0
-ClassPut p body o f o' f' (Ok x) = (e : E) × (class_of p body ≡ Ok e) × Adds o f (written e) o' f'
-ClassPut p body o f o' f' (Err x) = class_of p body ≡ Err x
+-- The commands of the class at the place p are put into the sink, or it is refused.
+abbrev pub ClassPut : ℕ → List ℕ → Sink → Sink → Result (Unit {0}) PatternFault → Type 0
+ClassPut p body s s' (Ok x) = (e : E) × (class_of p body ≡ Ok e) × Adds s (written e) s'
+ClassPut p body s s' (Err x) = class_of p body ≡ Err x

@@ -34,29 +34,18 @@ impl PatternFault {
     pub fn tell(self) -> Told
         ensures { result ≡ told self }
     {
-        match self {
-            PatternFault::TooLong => of_pattern(17, 0),
-            PatternFault::LoneEscape(place) => of_pattern(18, place),
-            PatternFault::OpenClass(place) => of_pattern(19, place),
-            PatternFault::FallingRange(place) => of_pattern(20, place),
-            PatternFault::EmptyClass(place) => of_pattern(21, place),
-            PatternFault::NoAtom(place) => of_pattern(22, place),
-            PatternFault::Unbalanced(place) => of_pattern(23, place),
-            PatternFault::TooDeep(place) => of_pattern(24, place),
-            PatternFault::Reserved(place) => of_pattern(25, place),
-            PatternFault::NoRoom => of_pattern(26, 0),
-        }
-    }
-}
-
-// A refusal of layer 4.
-fn of_pattern(number: u8, place: usize) -> Told
-    ensures { result ≡ record { number = number; layer = 4; place = place; count = 0 } }
-{
-    Told {
-        number,
-        layer: 4,
-        place,
-        count: 0,
+        let (number, place) = match self {
+            PatternFault::TooLong => (17, 0),
+            PatternFault::LoneEscape(place) => (18, place),
+            PatternFault::OpenClass(place) => (19, place),
+            PatternFault::FallingRange(place) => (20, place),
+            PatternFault::EmptyClass(place) => (21, place),
+            PatternFault::NoAtom(place) => (22, place),
+            PatternFault::Unbalanced(place) => (23, place),
+            PatternFault::TooDeep(place) => (24, place),
+            PatternFault::Reserved(place) => (25, place),
+            PatternFault::NoRoom => (26, 0),
+        };
+        Told::at(number, 4, place)
     }
 }

@@ -4,7 +4,9 @@
 mod classes;
 mod faults;
 mod marks;
+mod members;
 mod runs;
 mod sink;
+mod text;
 
 pub use faults::PatternFault;

@@ -1,27 +1,19 @@
 // Marks: the parts that a pattern text is cut into.
-ghost use Rattle.std.specs.Prelude.{◌≡◌, ◌+◌, ◌<◌, ◌≤◌, length};
-ghost use Rattle.patterns.specs.Marks.{closes, Within, Marked, repeat_of, letter_of};
+ghost use Rattle.std.specs.Prelude.{◌≡◌, ◌+◌, ◌<◌, ◌≤◌, length, drop};
+ghost use Rattle.std.specs.Result.{result_ok};
+ghost use Rattle.patterns.specs.Marks.{Bodied, Marked, repeat_of, letter_of};
 
 use crate::faults::PatternFault;
+use crate::members::Members;
+use crate::text::Text;
 
 // A part of a pattern text. A class borrows its body, which is what stands between '[' and ']'.
 #[derive(Clone, Copy)]
 pub(crate) enum Mark<'t> {
     Byte(u8),
     Escape(u8),
-    Class(&'t [u8]),
+    Class(Text<'t>),
     Sign(char),
-}
-
-// Where a class ends whose body begins a text.
-#[derive(Clone, Copy)]
-pub(crate) enum ClassEnd {
-    // behind so many bytes stands the first ']' that is not escaped
-    At(usize),
-    // no such ']' follows
-    Never,
-    // nothing follows the '\' at this offset
-    LoneEscape(usize),
 }
 
 // How often an atom is taken.
@@ -32,15 +24,22 @@ pub(crate) enum Repeat {
     Optional,
 }
 
-// What a sign says of the atom before it, if it says anything.
-pub(crate) fn repeat_of(sign: char) -> Option<Repeat>
-    ensures { result ≡ repeat_of sign }
-{
-    match sign {
-        '*' => Some(Repeat::Star),
-        '+' => Some(Repeat::Plus),
-        '?' => Some(Repeat::Optional),
-        _ => None,
+// A sign that says nothing of the atom before it.
+#[derive(Clone, Copy)]
+pub(crate) struct NoRepeat;
+
+impl TryFrom<char> for Repeat {
+    type Error = NoRepeat;
+
+    ghost try_from_gives = { λ sign r. result_ok r ≡ repeat_of sign };
+
+    fn try_from(sign: char) -> Result<Repeat, NoRepeat> {
+        match sign {
+            '*' => Ok(Repeat::Star),
+            '+' => Ok(Repeat::Plus),
+            '?' => Ok(Repeat::Optional),
+            _ => Err(NoRepeat),
+        }
     }
 }
 
@@ -57,57 +56,39 @@ impl Repeat {
     }
 }
 
-// The first mark of the text, which begins at `place` of the pattern, and the text behind the mark.
-pub(crate) fn first_mark<'t>(
-    text: &'t [u8],
-    place: usize,
-) -> Result<(Mark<'t>, &'t [u8]), PatternFault>
-    requires { (0 < length text.now) × (place + length text.now ≤ 256) }
-    ensures { Marked place text.now result }
+// The first mark of the text, and the text behind the mark.
+pub(crate) fn first_mark<'t>(text: Text<'t>) -> Result<(Mark<'t>, Text<'t>), PatternFault>
+    requires { 0 < length text.bytes.now }
+    ensures { Marked text.entry.place text.entry.bytes.now result }
 {
-    let [first, rest @ ..] = text else {
-        return Err(PatternFault::NoAtom(place));
-    };
-    match *first {
-        b'\\' => match rest {
-            [byte, rest @ ..] => Ok((Mark::Escape(*byte), rest)),
-            [] => Err(PatternFault::LoneEscape(place)),
-        },
-        b'[' => match class_end(rest) {
-            ClassEnd::At(n) => Ok((Mark::Class(&rest[0..n]), &rest[n + 1..])),
-            ClassEnd::Never => Err(PatternFault::OpenClass(place)),
-            ClassEnd::LoneEscape(n) => Err(PatternFault::LoneEscape(place + 1 + n)),
-        },
-        b'|' | b'(' | b')' | b'*' | b'+' | b'?' | b'.' => Ok((
-            Mark::Sign(char::from(*first)),
-            rest,
-        )),
-        byte => Ok((Mark::Byte(byte), rest)),
+    match text.bytes {
+        [] => unreachable!(),
+        [b'\\'] => Err(PatternFault::LoneEscape(text.place)),
+        [b'\\', byte, ..] => Ok((Mark::Escape(*byte), text.skip(2))),
+        [b'[', ..] => {
+            let body = class_body(text)?;
+            Ok((Mark::Class(body), text.skip(body.bytes.len() + 2)))
+        }
+        [sign @ (b'|' | b'(' | b')' | b'*' | b'+' | b'?' | b'.'), ..] => {
+            Ok((Mark::Sign(char::from(*sign)), text.skip(1)))
+        }
+        [byte, ..] => Ok((Mark::Byte(*byte), text.skip(1))),
     }
 }
 
-// Where the class ends whose body begins the text.
-fn class_end(text: &[u8]) -> ClassEnd
-    ensures value { result ≡ closes text.now }
-    ensures within { Within (length text.now) result }
+// The body of the class whose '[' begins the text: what is before the first ']' that is not escaped.
+fn class_body<'t>(text: Text<'t>) -> Result<Text<'t>, PatternFault>
+    requires { 0 < length text.bytes.now }
+    ensures { Bodied text.entry.place (drop 1 text.entry.bytes.now) result }
 {
-    let mut n = 0;
-    let mut rest = text;
-    while let [first, more @ ..] = rest {
-        match *first {
-            b']' => return ClassEnd::At(n),
-            b'\\' => {
-                let [_, after @ ..] = more else {
-                    return ClassEnd::LoneEscape(n);
-                };
-                n += 2;
-                rest = after;
-            }
-            _ => {
-                n += 1;
-                rest = more;
-            }
+    let inside = text.skip(1);
+    for member in Members(inside) {
+        match member.value {
+            b']' if member.bare => return Ok(inside.take(member.place - inside.place)),
+            // a '\' that stands for itself has no byte behind it
+            b'\\' if member.bare => return Err(PatternFault::LoneEscape(member.place)),
+            _ => {}
         }
     }
-    ClassEnd::Never
+    Err(PatternFault::OpenClass(text.place))
 }

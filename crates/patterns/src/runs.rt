@@ -1,114 +1,72 @@
 // The commands of a class: its longest runs of bytes.
-ghost use Rattle.std.specs.Prelude.{◌≡◌, ℕ, ◌+◌, ◌<◌, ◌≤◌, Bool, true, false, not, [], ◌∷◌, ◌++◌, length, if◌then◌else◌};
-ghost use Rattle.states.specs.Sets.{has};
+ghost use Rattle.std.specs.Prelude.{◌≡◌, ◌∷◌, ◌-◌, ◌<◌, reverse};
+ghost use Rattle.std.specs.Iterator.{YieldsFirst, item_count};
+ghost use Rattle.patterns.specs.Classes.{runs_left};
 ghost use Rattle.patterns.specs.Buffers.{Adds};
-ghost use Rattle.patterns.specs.Classes.{runs, Inner, Grows};
-ghost use Rattle.patterns.specs.Reading.{runs_written, ClassPut, behind_first, nonempty};
+ghost use Rattle.patterns.specs.Reading.{ClassPut, runs_written, written, ranged};
 
-use crate::classes::{Run, class_set};
+use crate::classes::class_bytes;
 use crate::faults::PatternFault;
-use crate::sink::{Filled, push};
+use crate::sink::Sink;
+use crate::text::Text;
 use states::State;
 
-// Puts the commands of the class at the place into the buffer.
-pub(crate) fn put_class(
-    body: &[u8],
-    place: usize,
-    out: &mut [u8],
-    filled: &mut Filled,
-) -> Result<(), PatternFault>
-    requires { place + length body.now ≤ 256 }
-    ensures { ClassPut place body.now out.old filled.old out.new filled.new result }
-{
-    let end = place + 1 + body.len();
-    let (members, others) = members_of(body);
-    let set = class_set(members, end)?;
-    if put_runs(set, others, out, filled) {
-        Ok(())
-    } else {
-        Err(PatternFault::EmptyClass(place))
+// Bytes from low to high. No range of the library's: that one also keeps whether it is used up.
+#[derive(Clone, Copy)]
+pub(crate) struct Run {
+    pub(crate) low: u8,
+    pub(crate) high: u8,
+}
+
+impl Run {
+    // The command of a symbol from low to high.
+    fn command(self) -> [u8; 5]
+        ensures { result ≡ written (ranged self) }
+    {
+        [b'R', 0, self.low, 0, self.high]
     }
 }
 
-// The members' part of a body, and whether the class has all other bytes.
-fn members_of<'t>(body: &'t [u8]) -> (&'t [u8], bool)
-    ensures { Inner body.now result.0.now result.1 }
-{
-    match body {
-        [b'^', members @ ..] => (members, true),
-        _ => (body, false),
-    }
-}
+// The longest runs of the bytes in a set, the lowest first.
+#[derive(Drop)]
+pub(crate) struct Runs(pub(crate) State);
 
-// Puts the runs of the set, or of all other bytes, into the buffer, and answers whether there are any.
-fn put_runs(set: State, others: bool, out: &mut [u8], filled: &mut Filled) -> bool
-    ensures some { result ≡ nonempty (runs (λ x. (if others then not (has set x) else has set x)) 256) }
-    ensures put { Adds out.old filled.old (runs_written (runs (λ x. (if others then not (has set x) else has set x)) 256)) out.new filled.new }
-{
-    let mut last = None;
-    let mut more = false;
-    for byte in 0..256u16 {
-        if is_in(byte as u8, set, others) {
-            let (ended, run) = grow(last, byte as u8);
-            if let Some(before) = ended {
-                put_run(before, more, out, filled);
-                more = true;
-            }
-            last = Some(run);
+impl Iterator for Runs {
+    type Item = Run;
+
+    ghost next_gives = { YieldsFirst runs_left };
+
+    ghost remaining = { item_count runs_left };
+
+    fn next(&mut self) -> Option<Run> {
+        let low = self.0.pop_lowest()?;
+        let mut high = low;
+        while high < 255 && self.0.holds(high + 1) {
+            high += 1;
+            self.0 = self.0.without(State::single(high));
         }
-    }
-    match last {
-        Some(run) => {
-            put_run(run, more, out, filled);
-            true
-        }
-        None => false,
+        Some(Run { low, high })
     }
 }
 
-// Whether a byte is in the set, or else in the set of all other bytes.
-fn is_in(byte: u8, set: State, others: bool) -> bool
-    ensures { result ≡ (if others then not (has set byte) else has set byte) }
+// Puts the commands of the class with this body, which begins behind its '[', into the sink.
+pub(crate) fn put_class(body: Text, sink: &mut Sink) -> Result<(), PatternFault>
+    requires { 0 < body.place }
+    ensures { ClassPut (body.entry.place - 1) body.entry.bytes.now sink.old sink.new result }
 {
-    if others {
-        !set.holds(byte)
-    } else {
-        set.holds(byte)
-    }
+    let mut runs = Runs(class_bytes(body)?);
+    let first = runs.next().ok_or(PatternFault::EmptyClass(body.place - 1))?;
+    put_runs(first, runs, sink);
+    Ok(())
 }
 
-// A byte behind the last run: the run that ends before it, if one does, and the run that it is the last byte of.
-fn grow(last: Option<Run>, byte: u8) -> (Option<Run>, Run)
-    ensures { Grows byte last result.0 result.1 }
+// Puts the commands of the runs into the sink, with A behind each but the first.
+fn put_runs(first: Run, others: Runs, sink: &mut Sink)
+    ensures { Adds sink.old (runs_written (reverse (first ∷ runs_left others))) sink.new }
 {
-    match last {
-        Some(run) if run.high as u16 + 1 == byte as u16 => (
-            None,
-            Run {
-                low: run.low,
-                high: byte,
-            },
-        ),
-        _ => (
-            last,
-            Run {
-                low: byte,
-                high: byte,
-            },
-        ),
-    }
-}
-
-// Puts a run into the buffer, with A behind it if there are runs before it.
-fn put_run(run: Run, more: bool, out: &mut [u8], filled: &mut Filled)
-    ensures { Adds out.old filled.old (82 ∷ 0 ∷ run.low ∷ 0 ∷ run.high ∷ behind_first more) out.new filled.new }
-{
-    push(out, filled, b'R');
-    push(out, filled, 0);
-    push(out, filled, run.low);
-    push(out, filled, 0);
-    push(out, filled, run.high);
-    if more {
-        push(out, filled, b'A');
+    sink.extend(&first.command());
+    for run in others {
+        sink.extend(&run.command());
+        sink.push(b'A');
     }
 }

@@ -1,33 +1,40 @@
 // A buffer that commands are put into, as far as there is room.
-ghost use Rattle.std.specs.Prelude.{◌≡◌, [], ◌∷◌, slice_set};
-ghost use Rattle.patterns.specs.Buffers.{Adds};
+ghost use Rattle.std.specs.Prelude.{◌≡◌, [], ◌∷◌};
+ghost use Rattle.patterns.specs.Buffers.{Put, Adds};
 
-// How far a buffer is filled. Bytes beyond the room are not counted, and leave `over` true; a buffer shorter than the room
-// takes the first of them, so that an empty one only measures.
-#[derive(Clone, Copy)]
-pub(crate) struct Filled {
-    pub(crate) room: usize,
-    pub(crate) len: usize,
-    pub(crate) over: bool,
+// A buffer and how many bytes were put into it. Those that it has no room for are counted too, so that an empty one only
+// measures.
+#[derive(Drop)]
+pub(crate) struct Sink<'b> {
+    pub(crate) buffer: &'b mut [u8],
+    pub(crate) wanted: usize,
 }
 
-// Puts a byte behind those that the buffer has.
-pub(crate) fn push(out: &mut [u8], filled: &mut Filled, byte: u8)
-    ensures { Adds out.old filled.old (byte ∷ []) out.new filled.new }
-{
-    if filled.len < filled.room {
-        store(out, filled.len, byte);
-        filled.len += 1;
-    } else {
-        filled.over = true;
+impl<'b> Sink<'b> {
+    // Nothing is put in yet.
+    pub(crate) fn new(buffer: &'b mut [u8]) -> Sink<'b>
+        ensures same_buffer { result.buffer.ghost_name ≡ buffer.entry.ghost_name }
+        ensures nothing { Put buffer.old [] result }
+    {
+        Sink { buffer, wanted: 0 }
     }
-}
 
-// Writes a byte, if there is such a place.
-fn store(out: &mut [u8], at: usize, byte: u8)
-    ensures { out.new ≡ slice_set out.old at byte }
-{
-    if at < out.len() {
-        out[at] = byte;
+    // Puts a byte behind those that were put in before.
+    pub(crate) fn push(&mut self, byte: u8)
+        ensures { Adds self.old (byte ∷ []) self.new }
+    {
+        if self.wanted < self.buffer.len() {
+            self.buffer[self.wanted] = byte;
+        }
+        self.wanted = self.wanted.saturating_add(1);
+    }
+
+    // Puts a run of bytes behind those that were put in before.
+    pub(crate) fn extend(&mut self, bytes: &[u8])
+        ensures { Adds self.old bytes.now self.new }
+    {
+        for byte in bytes {
+            self.push(*byte);
+        }
     }
 }

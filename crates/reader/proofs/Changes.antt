@@ -1,6 +1,7 @@
 -- Changes of a reader's book.
 use Rattle.std.proofs.Common.{◌≡◌, ℕ, ◌^◌, ◌<◌, Bool, true, false, cond, is_some, Some, None, Option, refl, ap, arith}
 use native.Mathlib.Bridge.{le_prop}
+use mathlib.Core.HLevel.{is_prop→PathP}
 use Rattle.std.specs.Option.{option_map}
 use Rattle.std.proofs.lemmas.Bool.{eq-eqb, ne_eqb}
 use Rattle.books.specs.Meaning.{Meaning}
@@ -8,20 +9,25 @@ use Rattle.books.specs.Changes.{delete_refusal}
 use Rattle.books.specs.declared.faults.BookFault.{BookFault}
 use Rattle.books.specs.declared.faults.BookFault.TheVariants.{Absent}
 use Rattle.books.specs.declared.refusal.Refusal.TheVariants.{LastEdition, Book}
+use Rattle.kept.specs.Tables.{steps}
+use Rattle.readings.specs.Views.{AllRight}
+use Rattle.readings.specs.OneProof.{AllRight-prop}
 use Rattle.readings.specs.Calls.{final}
 use Rattle.reader.specs.declared.reader.Reader.{Reader}
 use Rattle.reader.specs.Answers.{change_refusal}
 
 -- a reader whose book is as it was is as it was
-pub same_reader : {B S : Type 0} {p : _} {q : _} (r : Reader B S p q) (b : B) (h : r.tally < 2 ^ 32) (k : r.edition < 2 ^ 32) → b ≡ r.book
-    → ◌≡◌ {A = Reader B S p q} (record { book = b; kept = r.kept; edition = r.edition; tally = r.tally; fits = h; editions = k }) r
-same_reader r b h k e = λ i. record {
+pub same_reader : {B S : Type 0} {p : _} {q : _} (r : Reader B S p q) (b : B) (h : r.tally < 2 ^ 32) (k : r.edition < 2 ^ 32)
+    (s : AllRight (p.model b).meaning (steps r.kept)) → b ≡ r.book
+    → ◌≡◌ {A = Reader B S p q} (record { book = b; kept = r.kept; edition = r.edition; tally = r.tally; fits = h; editions = k; sound = s }) r
+same_reader {p = p} r b h k s e = λ i. record {
   book = e i;
   kept = r.kept;
   edition = r.edition;
   tally = r.tally;
   fits = le_prop h r.fits i;
   editions = le_prop k r.editions i;
+  sound = is_prop→PathP (λ j. AllRight (p.model (e j)).meaning (steps r.kept)) (λ j. AllRight-prop (p.model (e j)).meaning (steps r.kept)) s r.sound i;
 }
 
 -- before the last edition it is the book that refuses

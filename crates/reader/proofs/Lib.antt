@@ -1,2 +1,3 @@
 mod Seeks
 mod Changes
+mod Feeds

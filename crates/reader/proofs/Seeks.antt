@@ -1,35 +1,48 @@
 -- What a search that is over tells.
-use Rattle.std.proofs.Common.{◌≡◌, ℕ, ◌-◌, eqb, List, map, length, take, drop, sym, ap, ◌∙◌, subst, inl, inr, arith, length-drop, take_all}
+use Rattle.std.proofs.Common.{◌≡◌, ℕ, ◌-◌, ◌≤◌, Bool, true, false, cond, List, map, length, take, drop, Some, None, Option, IfSome, sym, refl, ap, ◌∙◌, subst, arith, length-drop, take_all}
+use Rattle.std.specs.Option.{option_map}
+use Rattle.std.specs.Int.{from_bool}
 use Rattle.std.proofs.lemmas.List.{drop-map}
-use Rattle.std.proofs.lemmas.Bool.{cases_eq, cond-true, cond-false, eq-eqb, ne_eqb}
-use Rattle.states.specs.declared.state.State.{State}
+use Rattle.states.specs.Sets.{State}
 use Rattle.books.specs.Meaning.{Lawful}
 use Rattle.readings.specs.Views.{View}
 use Rattle.readings.specs.Readings.{Told, Reads}
 use Rattle.readings.specs.Readings.Reading.{token, peek}
-use Rattle.readings.specs.Readings.Told.{matched, refused}
 use Rattle.readings.proofs.Onward.{Over}
-use Rattle.readings.proofs.Sought.{Sought, sought_found, sought_missed}
-use Rattle.reader.specs.declared.seeking.Seen.{Seen}
-use Rattle.reader.specs.Seen.{seen_told}
+use Rattle.readings.proofs.Sought.{Ended, Sought, best_length, ended_told, sought_within, sought_reads}
+use Rattle.reader.specs.declared.seeking.Best.{Best}
+use Rattle.reader.specs.Seen.{best_told}
 
-pub seen_none : (place : ℕ) (seen : Seen) → seen.length ≡ 0 → seen_told place seen ≡ refused 14 1 place
-seen_none place seen e = cond-true (eqb seen.length 0) _ _ (eq-eqb _ _ e)
+abbrev pub ended : Best → Ended
+ended b = (b.length, b.rules)
 
-pub seen_some : (place : ℕ) (seen : Seen) → (seen.length ≡ 0 → ⊥) → seen_told place seen ≡ matched place seen.length seen.rules
-seen_some place seen e = cond-false (eqb seen.length 0) _ _ (ne_eqb _ _ e)
+pub map_cond : (b : Bool) (o p : Option Best) → option_map ended (cond b o p) ≡ cond b (option_map ended o) (option_map ended p)
+map_cond true o p = refl
+map_cond false o p = refl
 
-pub seeks_over : {v₀ v : View} {s : State} {rest left : List ℕ} (seen : Seen) → Lawful v₀.book.meaning
-    → Sought v₀ rest v s left seen.count seen.length seen.rules → Over s left → (text : List ℕ) (place : ℕ) → drop place text ≡ rest
-    → Reads (token text place) (seen_told place seen) seen.count v₀ v × Reads (peek text place) (seen_told place seen) seen.count v₀ v
-seeks_over {v₀} {v} seen l o z text place d =
-    elim (cases_eq seen.length 0) [
-      | inl e ↦ subst Both (sym (seen_none place seen e)) (sought_missed l o z text place d e)
-      | inr e ↦ subst Both (sym (seen_some place seen e)) (sought_found l o z text place d (let h = e in omega arith))
-    ]
-  where
-    Both : Told → Type 0
-    Both t = Reads (token text place) t seen.count v₀ v × Reads (peek text place) t seen.count v₀ v
+told_same : (place : ℕ) (o : Option Best) → ended_told place (option_map ended o) ≡ best_told place o
+told_same place None = refl
+told_same place (Some b) = refl
+
+bounded : (n : ℕ) (o : Option Best) → best_length (option_map ended o) ≤ n → IfSome o (λ b. b.length ≤ n)
+bounded n None h = tt
+bounded n (Some b) h = h
+
+module _ {v₀ v : View} {s : State} {rest left : List ℕ} {n : ℕ} (best : Option Best) (o : Sought v₀ rest v s left n (option_map ended best)) where
+  pub seeks_within : IfSome best (λ b. b.length ≤ length rest)
+  seeks_within = let l = sought_within o in bounded (length rest) best (omega arith)
+
+  pub seeks_over : Lawful v₀.book.meaning → Over s left → (text : List ℕ) (place : ℕ) → drop place text ≡ rest
+      → Reads (token text place) (best_told place best) n v₀ v × Reads (peek text place) (best_told place best) n v₀ v
+  seeks_over l z text place d = subst Both (told_same place best) (sought_reads l z place o text d)
+    where
+      Both : Told → Type 0
+      Both t = Reads (token text place) t n v₀ v × Reads (peek text place) t n v₀ v
+
+-- a step that was worked out counts one
+pub counted : (b : Bool) (k : ℕ) → k ≡ from_bool b → (cond b 1 0 ≡ k) × (k ≤ 1)
+counted true k e = (sym e, omega arith)
+counted false k e = (sym e, omega arith)
 
 -- ---- the part `&text[place..]`
 

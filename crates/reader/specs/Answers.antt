@@ -1,7 +1,7 @@
 -- What the answers of a reader's calls tell, and how many steps they say were worked out.
 use Rattle.std.specs.Prelude.{ℕ, cond, Some, Ok, Err, Option, Result, ◌==◌}
 use Rattle.std.specs.Option.{option_map}
-use Rattle.states.specs.declared.rules.Rules.{Rules}
+use Rattle.states.specs.Sets.{Rules}
 use Rattle.books.specs.Refusals.{told}
 use Rattle.books.specs.declared.faults.BookFault.{BookFault}
 use Rattle.books.specs.declared.refusal.Refusal.{Refusal}

@@ -1,8 +1,7 @@
--- What a reader's contracts show of it.
-use Rattle.books.specs.Meaning.{Model}
+-- What a reader's contracts show of it. What its book means is the book's own to say.
 use Rattle.kept.specs.Tables.{steps}
 use Rattle.readings.specs.Views.{View}
 use Rattle.reader.specs.declared.reader.Reader.{Reader}
 
-abbrev pub view : {B S : Type 0} {g : _} {h : _} → (B → Model) → Reader B S g h → View
-view model r = record { book = model r.book; kept = steps r.kept; edition = r.edition; tally = r.tally }
+abbrev pub view : {B S : Type 0} {g : _} {h : _} → Reader B S g h → View
+view {g = g} r = record { book = g.model r.book; kept = steps r.kept; edition = r.edition; tally = r.tally }

@@ -18,18 +18,15 @@ impl<B: ChangingBook> Reader<B> {
             (λ e. (self.now.edition < final) × (e ≡ self.now.edition + 1))
             (λ f. (self.now.edition ≡ final) × (f ≡ LastEdition)) }
     {
-        match self.edition.checked_add(1) {
-            Some(edition) => Ok(edition),
-            None => Err(Refusal::LastEdition),
-        }
+        self.edition.checked_add(1).ok_or(Refusal::LastEdition)
     }
 
     // Puts a rule in force, and answers the new edition.
     pub fn add(&mut self, rule: u32, kind: u32, bytes: &[u8]) -> Result<u32, Refusal>
         ensures answer { result_err result ≡ change_refusal self.old.edition (B.ChangingBook.refusal (B.Book.model self.old.book).meaning rule kind bytes.now) }
-        ensures does { Does (adding rule kind bytes.now) (change_told result) 0 (view B.Book.model self.old) (view B.Book.model self.new) }
+        ensures does { Does (adding rule kind bytes.now) (change_told result) 0 (view self.old) (view self.new) }
         ensures acts { Acts B.ChangingBook.refusal B.ChangingBook.grows B.ChangingBook.shrinks (adding rule kind bytes.now) (change_told result) 0
-            (view B.Book.model self.old) (view B.Book.model self.new) }
+            (view self.old) (view self.new) }
         ensures same { OnErr result (self.new ≡ self.old) }
     {
         let edition = self.next_edition()?;
@@ -41,9 +38,9 @@ impl<B: ChangingBook> Reader<B> {
     // Takes a rule out of force with every kept step from a state that holds a position of it, and answers the new edition.
     pub fn delete(&mut self, rule: u32) -> Result<u32, Refusal>
         ensures answer { result_err result ≡ change_refusal self.old.edition (delete_refusal (B.Book.model self.old.book).meaning rule) }
-        ensures does { Does (deleting rule) (change_told result) 0 (view B.Book.model self.old) (view B.Book.model self.new) }
+        ensures does { Does (deleting rule) (change_told result) 0 (view self.old) (view self.new) }
         ensures acts { Acts B.ChangingBook.refusal B.ChangingBook.grows B.ChangingBook.shrinks (deleting rule) (change_told result) 0
-            (view B.Book.model self.old) (view B.Book.model self.new) }
+            (view self.old) (view self.new) }
         ensures same { OnErr result (self.new ≡ self.old) }
     {
         let edition = self.next_edition()?;

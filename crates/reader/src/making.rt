@@ -14,17 +14,17 @@ impl<B: Book> Reader<B> {
     // here; where there is none, the book is handed back. Whatever calls then follow, their readings stand: each tells what
     // the book means at the call, and works out only what is not kept.
     pub fn new(heap: Global, book: B, edition: u32) -> Result<Reader<B>, NoMemory<B>>
-        ensures made { MatchResult result (λ x. view B.model x ≡ fresh (B.model book) edition) (λ e. e.book ≡ book) }
-        ensures stands { IfOk result (λ x. (es : List Entry) → History (view B.model x) es → Stands es) }
+        ensures made { MatchResult result (λ x. view x ≡ fresh (B.model book) edition) (λ e. e.book ≡ book) }
+        ensures stands { IfOk result (λ x. (es : List Entry) → History (view x) es → Stands es) }
     {
-        match Kept::new(heap) {
-            Ok(kept) => Ok(Reader {
-                book,
-                kept,
-                edition,
-                tally: 0,
-            }),
-            Err(_) => Err(NoMemory { book }),
-        }
+        let Ok(kept) = Kept::new(heap) else {
+            return Err(NoMemory { book });
+        };
+        Ok(Reader {
+            book,
+            kept,
+            edition,
+            tally: 0,
+        })
     }
 }

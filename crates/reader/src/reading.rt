@@ -13,8 +13,8 @@ use books::Book;
 impl<B: Book> Reader<B> {
     // Reads a whole text: the rules that it meets, and how many steps were worked out. Nothing is allocated.
     pub fn read(&mut self, text: &[B::Symbol]) -> Answer
-        ensures does { Does (reads (whole (map B.Symbol.Symbol.code text.now))) (ended result.rules) result.count (view B.model self.old) (view B.model self.new) }
-        ensures meant { ReadsAsMeant (whole (map B.Symbol.Symbol.code text.now)) (ended result.rules) result.count (view B.model self.old) (view B.model self.new) }
+        ensures does { Does (reads (whole (map B.Symbol.Symbol.code text.now))) (ended result.rules) result.count (view self.old) (view self.new) }
+        ensures meant { ReadsAsMeant (whole (map B.Symbol.Symbol.code text.now)) (ended result.rules) result.count (view self.old) (view self.new) }
     {
         let mut state = self.book.start();
         let mut count: usize = 0;
@@ -24,9 +24,7 @@ impl<B: Book> Reader<B> {
             }
             let taken = self.step(state, *symbol);
             state = taken.state;
-            if taken.worked {
-                count += 1;
-            }
+            count += usize::from(taken.worked);
         }
         Answer {
             rules: self.book.ended(state),

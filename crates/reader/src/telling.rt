@@ -8,20 +8,20 @@ use books::Book;
 impl<B: Book> Reader<B> {
     // How many steps were worked out since the reader was made, up to 4,294,967,295.
     pub fn tally(&self) -> u32
-        ensures { result ≡ (view B.model self.now).tally }
+        ensures { result ≡ (view self.now).tally }
     {
         self.tally
     }
 
     pub fn edition(&self) -> u32
-        ensures { result ≡ (view B.model self.now).edition }
+        ensures { result ≡ (view self.now).edition }
     {
         self.edition
     }
 
     // The kind of a rule, or none where the rule is not in force.
     pub fn kind(&self, rule: u32) -> Option<u16>
-        ensures { result ≡ (view B.model self.now).book.meaning.kind rule }
+        ensures { result ≡ (view self.now).book.meaning.kind rule }
     {
         self.book.kind(rule)
     }

@@ -1,5 +1,5 @@
 ghost use Rattle.std.specs.Prelude.{◌≡◌, ℕ, ◌+◌, ◌≤◌, List, map, length, MatchResult};
-ghost use Rattle.readings.specs.Readings.{Reads};
+ghost use Rattle.readings.specs.Readings.{Reads, ReadsAsMeant};
 ghost use Rattle.readings.specs.Readings.Reading.{token, peek};
 ghost use Rattle.readings.specs.Calls.{Does};
 ghost use Rattle.readings.specs.Calls.Call.{read as reads};
@@ -31,24 +31,26 @@ impl<B: Book> Reader<B> {
     // Looks for the longest token at a place of a text, and moves the place to its end.
     fn advance(&mut self, text: &[B::Symbol], place: &mut usize) -> Result<Token, Refusal>
         requires { place.old ≤ length text.now }
-        ensures read_token { Reads (token (map B.Symbol.Symbol.code text.now) place.old) (token_told result) (token_count result) (view B.model self.old) (view B.model self.new) }
-        ensures peeked { Reads (peek (map B.Symbol.Symbol.code text.now) place.old) (token_told result) (token_count result) (view B.model self.old) (view B.model self.new) }
+        ensures read_token { Reads (token (map B.Symbol.Symbol.code text.now) place.old) (token_told result) (token_count result) (view self.old) (view self.new) }
+        ensures peeked { Reads (peek (map B.Symbol.Symbol.code text.now) place.old) (token_told result) (token_count result) (view self.old) (view self.new) }
+        ensures token_meant { ReadsAsMeant (token (map B.Symbol.Symbol.code text.now) place.old) (token_told result) (token_count result) (view self.old) (view self.new) }
+        ensures peek_meant { ReadsAsMeant (peek (map B.Symbol.Symbol.code text.now) place.old) (token_told result) (token_count result) (view self.old) (view self.new) }
         ensures moves { MatchResult result (λ t. (place.new ≡ place.old + t.length) × (t.place ≡ place.old)) (λ _. place.new ≡ place.old) }
         ensures bound { place.new ≤ length text.now }
     {
         let at = *place;
         let seen = self.seek(&text[at..]);
-        if seen.length == 0 {
+        let Some(best) = seen.best else {
             return Err(Refusal::NoToken {
                 place: at,
                 count: seen.count,
             });
-        }
-        *place = at + seen.length;
+        };
+        *place = at + best.length;
         Ok(Token {
             place: at,
-            length: seen.length,
-            rules: seen.rules,
+            length: best.length,
+            rules: best.rules,
             count: seen.count,
         })
     }
@@ -56,7 +58,8 @@ impl<B: Book> Reader<B> {
     // Reads the longest token at the cursor's place, and moves the cursor to its end. Refused where no beginning of the rest
     // but the empty one meets a rule; the cursor then stays.
     pub fn token(&mut self, cursor: &mut Cursor<'_, B::Symbol>) -> Result<Token, Refusal>
-        ensures does { Does (reads (token (codes_of B.Symbol.Symbol.code cursor.old) cursor.old.place)) (token_told result) (token_count result) (view B.model self.old) (view B.model self.new) }
+        ensures does { Does (reads (token (codes_of B.Symbol.Symbol.code cursor.old) cursor.old.place)) (token_told result) (token_count result) (view self.old) (view self.new) }
+        ensures meant { ReadsAsMeant (token (codes_of B.Symbol.Symbol.code cursor.old) cursor.old.place) (token_told result) (token_count result) (view self.old) (view self.new) }
         ensures moves { MatchResult result (λ t. Moved cursor.old t cursor.new) (λ _. Unmoved cursor.old cursor.new) }
     {
         let text = cursor.text;
@@ -70,7 +73,8 @@ impl<B: Book> Reader<B> {
 
     // Answers as reading the next token would, and leaves the cursor where it was.
     pub fn peek(&mut self, cursor: &mut Cursor<'_, B::Symbol>) -> Result<Token, Refusal>
-        ensures does { Does (reads (peek (codes_of B.Symbol.Symbol.code cursor.old) cursor.old.place)) (token_told result) (token_count result) (view B.model self.old) (view B.model self.new) }
+        ensures does { Does (reads (peek (codes_of B.Symbol.Symbol.code cursor.old) cursor.old.place)) (token_told result) (token_count result) (view self.old) (view self.new) }
+        ensures meant { ReadsAsMeant (peek (codes_of B.Symbol.Symbol.code cursor.old) cursor.old.place) (token_told result) (token_count result) (view self.old) (view self.new) }
         ensures stays { Unmoved cursor.old cursor.new }
     {
         let text = cursor.text;

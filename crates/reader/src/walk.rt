@@ -9,7 +9,7 @@ pub struct Walk {
     pub(crate) edition: u32,
 }
 
-// A walk that went on by one symbol, and whether that step was worked out.
+// A walk that went on by one symbol, and whether that step was worked out. The walk goes on in both cases, so it is no Option.
 #[derive(Drop)]
 pub struct Fed {
     pub walk: Walk,

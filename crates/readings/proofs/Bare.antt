@@ -1,14 +1,14 @@
 -- Over a sound reader a reading goes where the book says, and the reader stays sound.
-use Rattle.std.proofs.Common.{◌≡◌, ℕ, Bool, true, false, cond, ◌&&◌, eqb, List, [], ◌∷◌, Some, unwrap_or, sym, refl, ap, ◌∙◌, subst}
+use Rattle.std.proofs.Common.{◌≡◌, ℕ, Bool, true, false, cond, ◌&&◌, eqb, List, [], ◌∷◌, Some, unwrap_or, sym, refl, ap, ◌∙◌, subst, subst₂}
 use Rattle.std.specs.List.{AllByRecursion}
 use Rattle.std.proofs.ByRecursion.{All-push}
 use Rattle.std.proofs.lemmas.Bool.{and_parts, eqb-true, cond_both}
-use Rattle.states.specs.declared.state.State.{State}
+use Rattle.states.specs.Sets.{State}
 use Rattle.states.specs.Sets.{same, is_empty}
 use Rattle.states.proofs.Members.{same_true, empty_is}
-use Rattle.books.specs.Meaning.{Meaning, Lawful, Within}
+use Rattle.books.specs.Meaning.{Meaning, Model, Lawful, Within, asked}
 use Rattle.kept.specs.Steps.{Step, found, keep}
-use Rattle.readings.specs.Views.{View, Right, Sound}
+use Rattle.readings.specs.Views.{View, Right, AllRight, Sound}
 use Rattle.readings.specs.Runs.{Pair, goes, met, meant, keep_all, Works}
 use Rattle.readings.specs.Readings.{Reading, Told, ReadsBy, Reads, from, codes}
 use Rattle.readings.proofs.Positions.{next_nothing}
@@ -38,6 +38,10 @@ sound_goes v l a = λ i s c. at s c i
         (λ e. let z = empty_is s e in z ∙ sym (next_nothing v.book.meaning l c) ∙ ap (λ (t : State). v.book.meaning.next t c) (sym z))
         (λ e. found_right v.book.meaning v.kept s c a)
 
+-- so it goes to live positions alone
+pub goes_live : (v : View) → Lawful v.book.meaning → Sound v → (s : State) (c : ℕ) → Within v.book.meaning (goes v s c)
+goes_live v l a s c = subst (λ (f : State → ℕ → State). Within v.book.meaning (f s c)) (sym (sound_goes v l a)) (l.steps s c)
+
 -- ---- what is kept on the way
 
 -- the pairs that are met have live positions only
@@ -48,6 +52,15 @@ met_within m l s (c ∷ cs) w =
 
 keep_right : (m : Meaning) (ks : List Step) (p : Pair) → Within m p.0 → AllByRecursion (Right m) ks → AllByRecursion (Right m) (keep ks (meant m p))
 keep_right m ks p w a = keep_both ks (meant m p) (AllByRecursion (Right m)) a (All-push (Right m) ks (meant m p) a (record { live = w; next = refl }))
+
+-- the book that was asked means as before: its answer is live, and its step is right to keep
+module _ (b : Model) (s : State) (c : ℕ) where
+  pub asked_live : {a : Model} {t : State} → Lawful b.meaning → a ≡ asked s c b → t ≡ b.meaning.next s c → Within a.meaning t
+  asked_live l e n = subst₂ Within (sym (ap (λ (x : Model). x.meaning) e)) (sym n) (l.steps s c)
+
+  pub asked_right : {a : Model} (ks : List Step) {kt : List Step} → Within b.meaning s → AllRight b.meaning ks → a ≡ asked s c b
+      → kt ≡ keep ks (meant b.meaning (s, c)) → AllRight a.meaning kt
+  asked_right ks w r e k = subst₂ AllRight (sym (ap (λ (x : Model). x.meaning) e)) (sym k) (keep_right b.meaning ks (s, c) w r)
 
 keep_all_right : (m : Meaning) (ks : List Step) (ps : List Pair) → AllByRecursion (λ (p : Pair). Within m p.0) ps → AllByRecursion (Right m) ks → AllByRecursion (Right m) (keep_all m ks ps)
 keep_all_right m ks [] w a = a

@@ -3,7 +3,7 @@ use Rattle.std.proofs.Common.{◌≡◌, ℕ, false, not, List, [], ◌∷◌, i
 use Rattle.std.specs.List.{AllByRecursion}
 use Rattle.std.proofs.ByRecursion.{All-weaker}
 use Rattle.std.proofs.lemmas.Bool.{both_ways, not-true, cond_both}
-use Rattle.states.specs.declared.state.State.{State}
+use Rattle.states.specs.Sets.{State}
 use Rattle.books.specs.Meaning.{Meaning, Lawful, Within, touches}
 use Rattle.books.specs.Changes.{Elsewhere, Added, Deleted}
 use Rattle.kept.specs.Steps.{Step}

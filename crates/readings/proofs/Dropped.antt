@@ -1,7 +1,7 @@
 -- The positions that were live before a deletion and are so no more are those of the deleted rule.
 use Rattle.std.proofs.Common.{◌≡◌, ℕ, Bool, not, ◌&&◌, List, is_some, Some, None, filter, Option, sym, refl, ap, ◌∙◌, inl, inr}
 use Rattle.std.proofs.lemmas.Bool.{ne_eqb, eq-eqb, cases_eq}
-use Rattle.states.specs.declared.state.State.{State}
+use Rattle.states.specs.Sets.{State}
 use Rattle.states.specs.Words.{some}
 use Rattle.states.specs.Sets.{has, shares}
 use Rattle.books.specs.Meaning.{Meaning, is, touches}

@@ -2,9 +2,10 @@
 use Rattle.std.proofs.Common.{◌≡◌, ℕ, ◌+◌, ◌≤◌, Bool, true, false, cond, ◌&&◌, eqb, ltb, ◌↔◌, List, [], ◌∷◌, ◌++◌, length, is_some, Some, None, sym, refl, ap, ◌∙◌, subst, subst₂, inl, inr, arith, lit<, lit≤}
 use Rattle.std.specs.List.{AllByRecursion}
 use Rattle.std.proofs.lemmas.Bool.{ltb-true, lt-ltb, le-ltb, and_parts, and_right, both_ways, cases_Bool, cases_eq, cases_lt, eq-eqb, cond-true, cond-false}
-use Rattle.states.specs.declared.state.State.{State}
+use Rattle.std.proofs.lemmas.Option.{cond_some}
+use Rattle.states.specs.Sets.{State}
 use Rattle.states.specs.Words.{some, digits_of}
-use Rattle.states.specs.Sets.{has, set_of, has_rule, rules_of, same, is_empty, no_rule}
+use Rattle.states.specs.Sets.{has, with_members, words_of, set_of, has_rule, rules_of, same, is_empty, no_rule}
 use Rattle.states.proofs.Members.{has_above, has_set_of, member_below, has_rule_rules_of, rules_above, same_members, same_rules}
 use Rattle.books.specs.Meaning.{Meaning, Lawful, counting, is, touches}
 use Rattle.books.specs.Changes.{Added, Deleted}
@@ -59,19 +60,15 @@ same_rule_sets f g e = same_rules (rules_of f) (rules_of g) (λ p l. has_rule_ru
 
 -- ---- the laws
 
-some_in : {A : Type 0} (b : Bool) (x y : A) → cond b (Some x) None ≡ Some y → (b ≡ true) × (x ≡ y)
-some_in true x y e = (refl, (cc))
-some_in false x y e = (cc, (cc))
-
 owner_self : (n r : ℕ) → ltb r n ≡ true → cond (ltb r n) (Some r) None ≡ Some r
 owner_self n r e = ap (λ (b : Bool). cond b (Some r) None) e
 
 lawful : (n : ℕ) → n ≤ 64 → Lawful (book n)
 unfolding book
 lawful n l = record {
-  rules = λ r k e. let h = some_in (ltb r n) 7 k e in let b = ltb-true r n h.0 in let q = h.1 in (omega arith, omega arith);
+  rules = λ r k e. let h = cond_some (ltb r n) 7 k e in let b = ltb-true r n h.0 in let q = h.1 in (omega arith, omega arith);
   owners = λ p r e.
-      let h = some_in (ltb p n) p r e in
+      let h = cond_some (ltb p n) p r e in
       let b = ltb-true p n h.0 in
       (omega arith, ap (λ (q : ℕ). is_some {T = ℕ} (cond (ltb q n) (Some 7) None)) (sym h.1) ∙ ap (λ (t : Bool). is_some {T = ℕ} (cond t (Some 7) None)) h.0);
   starts = λ p h. live p (in_set _ p h);
@@ -103,7 +100,7 @@ below n q d = elim (cases_lt q n) [
 module _ (n : ℕ) where
   last_owner : (p : ℕ) → cond (ltb p (n + 1)) (Some p) None ≡ Some n → cond (ltb p n) (Some p) None ≡ None
   last_owner p e =
-      let q = (some_in (ltb p (n + 1)) p n e).1 in
+      let q = (cond_some (ltb p (n + 1)) p n e).1 in
       cond-false (ltb p n) (Some p) None (le-ltb p n (omega arith))
 
   -- what is not the new rule's is below n
@@ -134,8 +131,8 @@ module _ (n : ℕ) where
   same_owner : (q p : ℕ) → (q ≡ n → ⊥) → (book (n + 1)).owner p ≡ Some q ↔ (book n).owner p ≡ Some q
   unfolding book
   same_owner q p d = (
-    λ e. sym (at (some_in (ltb p (n + 1)) p q e).1) ∙ e,
-    λ e. at (some_in (ltb p n) p q e).1 ∙ e,
+    λ e. sym (at (cond_some (ltb p (n + 1)) p q e).1) ∙ e,
+    λ e. at (cond_some (ltb p n) p q e).1 ∙ e,
   )
     where
       at : p ≡ q → cond (ltb p (n + 1)) (Some p) None ≡ cond (ltb p n) (Some p) None
@@ -172,7 +169,7 @@ module _ (n : ℕ) where
     freed = last_owner;
     loses = λ p e. elim (cases_Bool (has (set_of (λ q. ltb q n)) p)) [
       | inl h ↦ (let b = ltb-true p n (in_set (λ q. ltb q n) p h) in
-          let q = (some_in (ltb p (n + 1)) p n (is_true ((book (n + 1)).owner p) n e)).1 in
+          let q = (cond_some (ltb p (n + 1)) p n (is_true ((book (n + 1)).owner p) n e)).1 in
           absurd (omega arith))
       | inr h ↦ h
     ];
@@ -241,11 +238,11 @@ abbrev reader₄ : View
 reader₄ = reader 1 (kept_step 1 ∷ []) 2 2
 
 start₁ : is_empty (book 1).start ≡ false
-unfolding book is_empty set_of digits_of
+unfolding book is_empty with_members words_of digits_of
 start₁ = refl
 
 start₂ : is_empty (book 2).start ≡ false
-unfolding book is_empty set_of digits_of
+unfolding book is_empty with_members words_of digits_of
 start₂ = refl
 
 reads_does : (n : ℕ) {k : ℕ} {ks : List Step} {e t : ℕ} {w : View} → is_empty (book n).start ≡ false → Good (reader n ks e t)
@@ -258,20 +255,20 @@ reads_does n {k} {ks} {e} {t} {w} s g x =
     })
 
 works₁ : Works (at_start 1 ∷ at_start 1 ∷ []) 1 reader₀ reader₁
-unfolding book found keep same set_of digits_of
+unfolding book found keep same with_members words_of digits_of
 works₁ = record { count = refl; book = refl; kept = refl; edition = refl; tally = refl }
 
 works₃ : Works (at_start 2 ∷ at_start 2 ∷ []) 1 reader₂ reader₃
-unfolding book found keep same set_of digits_of
+unfolding book found keep same with_members words_of digits_of
 works₃ = record { count = refl; book = refl; kept = refl; edition = refl; tally = refl }
 
 -- readings whose steps are kept
 none₃ : Works (at_start 2 ∷ at_start 2 ∷ []) 0 reader₃ reader₃
-unfolding book found keep same set_of digits_of
+unfolding book found keep same with_members words_of digits_of
 none₃ = record { count = refl; book = refl; kept = refl; edition = refl; tally = refl }
 
 none₄ : Works (at_start 1 ∷ at_start 1 ∷ []) 0 reader₄ reader₄
-unfolding book found keep same set_of digits_of
+unfolding book found keep same with_members words_of digits_of
 none₄ = record { count = refl; book = refl; kept = refl; edition = refl; tally = refl }
 
 adding : Does adds.call adds.told 0 reader₁ reader₂
@@ -288,7 +285,7 @@ adding = inr (inr (record {
 
 -- the deletion drops the step from a state with a position of the rule
 left : kept_step 1 ∷ [] ≡ without (book 2) 1 (kept_step 1 ∷ kept_step 2 ∷ [])
-unfolding book touches some has set_of digits_of
+unfolding book touches some has with_members words_of digits_of
 left = refl
 
 deleting : Does deletes.call deletes.told 0 reader₃ reader₄
@@ -360,7 +357,7 @@ stayed r h = (none, (none, (none, (first, tt))))
     first e = let q : 1 ≡ r = cc in both_ways (is_some {T = ℕ} (cond (ltb r 1) (Some 7) None)) (ap (λ (k : ℕ). is_some {T = ℕ} (cond (ltb k 1) (Some 7) None)) (sym q)) h
 
 steps_kept : StepsKept [] (reads 1 1)
-unfolding book same set_of digits_of
+unfolding book same with_members words_of digits_of
 steps_kept = subst (λ (ps : List Pair). AllByRecursion (λ q. among (keep_pairs [] ps) q ≡ true) ps) (sym (met_letters 1 start₁)) here
   where
     here : AllByRecursion (λ q. among (keep_pairs [] (at_start 1 ∷ at_start 1 ∷ [])) q ≡ true) (at_start 1 ∷ at_start 1 ∷ [])
@@ -368,13 +365,13 @@ steps_kept = subst (λ (ps : List Pair). AllByRecursion (λ q. among (keep_pairs
 
 -- one pair was kept, and one more is met
 room : length (kept_after (reads 1 1 ∷ adds ∷ [])) + length (unkept (reads 1 1 ∷ adds ∷ []) (reads 2 1 ∷ reads 2 0 ∷ [])) ≤ most
-unfolding book same set_of digits_of
+unfolding book same with_members words_of digits_of
 room =
     subst₂ (λ (ps qs : List Pair). length (keep_pairs [] ps) + length (distinct_from (keep_pairs [] ps) (qs ++ (qs ++ []))) ≤ most)
     (sym (met_letters 1 start₁)) (sym (met_letters 2 start₂)) (lit≤ tt)
 
 some_rule : no_rule ((book 1).ended (book 1).start) ≡ false
-unfolding book no_rule rules_of has set_of digits_of
+unfolding book is_empty has with_members words_of digits_of
 some_rule = refl
 
 pub repeated : Repeated 2

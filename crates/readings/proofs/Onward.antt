@@ -1,8 +1,8 @@
 -- A reading half done: what was met so far, and what is left. Assumes nothing.
 use Rattle.std.proofs.Common.{◌≡◌, ℕ, ◌+◌, ◌^◌, ◌<◌, true, false, ◌⊎◌, List, [], ◌∷◌, ◌++◌, sym, refl, ap, ◌∙◌, subst, ap₂, inl, inr, append_assoc, append-nil}
 use Rattle.std.proofs.lemmas.Bool.{cond-true, cond-false}
-use Rattle.states.specs.declared.state.State.{State}
-use Rattle.states.specs.declared.rules.Rules.{Rules}
+use Rattle.states.specs.Sets.{State}
+use Rattle.states.specs.Sets.{Rules}
 use Rattle.states.specs.Sets.{is_empty}
 use Rattle.books.specs.Meaning.{Meaning}
 use Rattle.books.specs.Texts.{after}

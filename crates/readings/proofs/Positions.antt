@@ -1,9 +1,9 @@
 -- Which rules the positions of a state are of. Assumes nothing.
 use Rattle.std.proofs.Common.{◌≡◌, ℕ, true, false, is_some, Some, None, Decides, Option, refl, ap, ◌∙◌, inl, inr}
 use Rattle.std.proofs.lemmas.Bool.{eqb-true, eq-eqb, cases_Bool, both_ways}
-use Rattle.states.specs.declared.state.State.{State}
+use Rattle.states.specs.Sets.{State}
 use Rattle.states.specs.Sets.{has, is_empty, nothing, no_rule}
-use Rattle.states.proofs.Members.{empty_is, no_members, has_nothing, some_member, no_rule_decides}
+use Rattle.states.proofs.Members.{empty_is, no_members, has_nothing, some_member, is_empty_decides}
 use Rattle.books.specs.Meaning.{Meaning, Lawful, Within, is, touches}
 
 pub some_of : {A : Type 0} (o : Option A) → is_some o ≡ true → (x : A) × (o ≡ Some x)
@@ -49,4 +49,4 @@ next_nothing m l c = untouched m (m.next nothing c) (l.steps nothing c) (λ r. l
 
 -- the empty state ends no rule
 pub ended_empty : (m : Meaning) → Lawful m → (s : State) → is_empty s ≡ true → no_rule (m.ended s) ≡ true
-ended_empty m l s e = (no_rule_decides (m.ended s)).1 (λ r. l.ends r s (ap (touches m r) (empty_is s e) ∙ touches_nothing m r))
+ended_empty m l s e = (is_empty_decides (m.ended s) _ refl).1 (λ r. l.ends r s (ap (touches m r) (empty_is s e) ∙ touches_nothing m r))

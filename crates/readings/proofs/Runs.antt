@@ -1,6 +1,6 @@
 -- Readings one after the other. Assumes nothing.
 use Rattle.std.proofs.Common.{◌≡◌, ℕ, ◌+◌, ◌^◌, ◌<◌, min, Bool, true, false, cond, List, [], ◌∷◌, ◌++◌, length, unwrap_or, sym, refl, ap, ◌∙◌, ap₂, arith, length-append}
-use Rattle.states.specs.declared.state.State.{State}
+use Rattle.states.specs.Sets.{State}
 use Rattle.states.specs.Sets.{is_empty}
 use Rattle.books.specs.Meaning.{Meaning, Model, asked}
 use Rattle.kept.specs.Steps.{Step, found, keep}

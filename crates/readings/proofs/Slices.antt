@@ -1,15 +1,15 @@
 -- Readings over a slice of symbols, of which i are read.
-use Rattle.std.proofs.Common.{◌≡◌, ℕ, ◌+◌, ◌<◌, ◌≤◌, false, cond, List, [], ◌∷◌, map, length, get_or, drop, sym, ap, ◌∙◌, subst, subst₂, inl, inr, arith, length-drop}
+use Rattle.std.proofs.Common.{◌≡◌, ℕ, ◌+◌, ◌<◌, ◌≤◌, false, cond, List, [], ◌∷◌, map, length, get_or, drop, Some, Option, sym, ap, ◌∙◌, subst, inl, arith, length-drop}
 use lib.ListN.{length-map}
 use Rattle.std.proofs.lemmas.List.{drop_more, drop_all}
-use Rattle.std.proofs.lemmas.Bool.{cases_Bool, cond-true, cond-false}
-use Rattle.states.specs.declared.state.State.{State}
-use Rattle.states.specs.declared.rules.Rules.{Rules}
+use Rattle.std.proofs.lemmas.Bool.{cond_both}
+use Rattle.states.specs.Sets.{State}
+use Rattle.states.specs.Sets.{Rules}
 use Rattle.states.specs.Sets.{is_empty, no_rule}
 use Rattle.readings.specs.Views.{View}
 use Rattle.readings.specs.Runs.{goes, Works}
 use Rattle.readings.proofs.Onward.{Onward, Over, onward_step}
-use Rattle.readings.proofs.Sought.{Sought, sought_past, sought_here}
+use Rattle.readings.proofs.Sought.{Ended, Sought, sought_past, sought_here}
 
 module _ {X : Type 0} (code : X → ℕ) (text : List X) where
   -- the symbol at i stands before what is left after it
@@ -22,18 +22,15 @@ module _ {X : Type 0} (code : X → ℕ) (text : List X) where
   onward_more {v₀} {v} {w} {s₀} {s} {t} {all} {i} {n} {k} x h r o e y g =
       onward_step {rest = map code (drop (i + 1) text)} (subst (λ (l : List ℕ). Onward v₀ s₀ all v s l n) (symbol_first i x h r) o) e y g
 
-  pub sought_more : {v₀ v w : View} {s t : State} {i n k best : ℕ} {rules rules' : Rules} (x : X) → i < length text → x ≡ get_or text i x
-      → Sought v₀ (map code text) v s (map code (drop i text)) n best rules → is_empty s ≡ false → Works ((s, code x) ∷ []) k v w
+  pub sought_more : {v₀ v w : View} {s t : State} {i n k : ℕ} {best : Option Ended} {rules' : Rules} (x : X) → i < length text → x ≡ get_or text i x
+      → Sought v₀ (map code text) v s (map code (drop i text)) n best → is_empty s ≡ false → Works ((s, code x) ∷ []) k v w
       → t ≡ goes v s (code x) → rules' ≡ w.book.meaning.ended t
-      → Sought v₀ (map code text) w t (map code (drop (i + 1) text)) (n + k) (cond (no_rule rules') best (i + 1)) (cond (no_rule rules') rules rules')
-  sought_more {v₀} {v} {w} {s} {t} {i} {n} {k} {best} {rules} {rules'} x h r o e y g q =
-      let o' = subst (λ (l : List ℕ). Sought v₀ (map code text) v s l n best rules) (symbol_first i x h r) o in
-      elim (cases_Bool (no_rule rules')) [
-        | inl yes' ↦ subst₂ (Sought v₀ (map code text) w t (map code (drop (i + 1) text)) (n + k)) (sym (cond-true _ best (i + 1) yes')) (sym (cond-true _ rules rules' yes'))
-            (sought_past o' e y g q yes')
-        | inr no' ↦ subst₂ (Sought v₀ (map code text) w t (map code (drop (i + 1) text)) (n + k)) (sym (cond-false _ best (i + 1) no')) (sym (cond-false _ rules rules' no'))
-            (sought_here o' e y g q no' (simp (length-map, length-drop) (omega arith)))
-      ]
+      → Sought v₀ (map code text) w t (map code (drop (i + 1) text)) (n + k) (cond (no_rule rules') best (Some (i + 1, rules')))
+  sought_more {v₀} {v} {w} {s} {t} {i} {n} {k} {best} {rules'} x h r o e y g q =
+      let o' = subst (λ (l : List ℕ). Sought v₀ (map code text) v s l n best) (symbol_first i x h r) o in
+      cond_both (no_rule rules') best (Some (i + 1, rules')) (Sought v₀ (map code text) w t (map code (drop (i + 1) text)) (n + k))
+      (λ none. sought_past o' e y g q none)
+      (λ some. sought_here o' e y g q (i + 1) some (simp (length-map, length-drop) (omega arith)))
 
   -- the text has ended
   pub all_read : (s : State) {i : ℕ} → length text ≤ i → Over s (map code (drop i text))

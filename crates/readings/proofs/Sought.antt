@@ -1,9 +1,9 @@
 -- A search for a token, half done: which beginning of the part read so far is the longest that ends a rule.
-use Rattle.std.proofs.Common.{◌≡◌, ℕ, ◌+◌, ◌-◌, ◌^◌, ◌<◌, ◌≤◌, true, false, ◌⊎◌, List, [], ◌∷◌, ◌++◌, length, take, drop, sym, refl, ap, ◌∙◌, subst, ap₂, inl, inr, append_assoc, append-nil, arith, length-append, take_at}
+use Rattle.std.proofs.Common.{◌≡◌, ℕ, ◌+◌, ◌-◌, ◌^◌, ◌<◌, ◌≤◌, true, false, List, [], ◌∷◌, ◌++◌, length, take, drop, Some, None, Option, IfSome, sym, refl, ap, ◌∙◌, subst, subst₂, ap₂, inl, inr, append_assoc, append-nil, arith, length-append, take_at}
 use lib.Seq.{take-append-add}
 use Rattle.std.proofs.lemmas.Bool.{cases_lt}
-use Rattle.states.specs.declared.state.State.{State}
-use Rattle.states.specs.declared.rules.Rules.{Rules}
+use Rattle.states.specs.Sets.{State}
+use Rattle.states.specs.Sets.{Rules}
 use Rattle.states.specs.Sets.{is_empty, no_rule}
 use Rattle.books.specs.Meaning.{Meaning, Lawful}
 use Rattle.books.specs.Texts.{after}
@@ -21,26 +21,35 @@ use Rattle.readings.proofs.Onward.{Onward, onward_none, onward_step, stuck, Over
 abbrev ended_at : View → List ℕ → ℕ → Rules
 ended_at v text k = ended_by v.book.meaning (goes v) text k
 
+-- a beginning by its length, and the rules that it ends
+abbrev pub Ended : Type 0
+Ended = ℕ × Rules
+
+-- no beginning is longer than one of no symbol
+abbrev pub best_length : Option Ended → ℕ
+best_length None = 0
+best_length (Some b) = b.0
+
 -- A search of `text` for a token, by the reader v₀, has worked out n steps, which left the reader v. It stands at s, before
--- `rest`. The longest beginning so far, not empty, that ends a rule has the length `best` and ends `rules`; 0 if there is none.
-pub record Sought (v₀ : View) (text : List ℕ) (v : View) (s : State) (rest : List ℕ) (n best : ℕ) (rules : Rules) : Type 0 where
+-- `rest`. `best` is the longest beginning so far, not empty, that ends a rule, if there is one.
+pub record Sought (v₀ : View) (text : List ℕ) (v : View) (s : State) (rest : List ℕ) (n : ℕ) (best : Option Ended) : Type 0 where
   pub onward : Onward v₀ v₀.book.meaning.start text v s rest n
   pub past : List ℕ
   pub parts : text ≡ past ++ rest
   pub here : after (goes v₀) v₀.book.meaning.start past ≡ s
-  pub within : best ≤ length past
-  pub ends : (best ≡ 0) ⊎ ((no_rule rules ≡ false) × (rules ≡ ended_at v₀ text best))
-  pub longer : (k : ℕ) → best < k → k ≤ length past → no_rule (ended_at v₀ text k) ≡ true
+  pub within : best_length best ≤ length past
+  pub ends : IfSome best (λ b. (1 ≤ b.0) × (no_rule b.1 ≡ false) × (b.1 ≡ ended_at v₀ text b.0))
+  pub longer : (k : ℕ) → best_length best < k → k ≤ length past → no_rule (ended_at v₀ text k) ≡ true
 
 -- nothing is read yet
-pub sought_none : (v : View) (text : List ℕ) (rules : Rules) → v.tally < 2 ^ 32 → Sought v text v v.book.meaning.start text 0 0 rules
-sought_none v text rules l = record {
+pub sought_none : (v : View) (text : List ℕ) → v.tally < 2 ^ 32 → Sought v text v v.book.meaning.start text 0 None
+sought_none v text l = record {
   onward = onward_none v v.book.meaning.start text l;
   past = [];
   parts = refl;
   here = refl;
   within = omega arith;
-  ends = inl refl;
+  ends = tt;
   longer = λ k g h. absurd (omega arith);
 }
 
@@ -50,7 +59,7 @@ after_append next s (c ∷ cs) ds = after_append next (next s c) cs ds
 
 -- ---- one step more
 
-module _ {v₀ v w : View} {s t : State} {text rest : List ℕ} {c n k best : ℕ} {rules rules' : Rules} (o : Sought v₀ text v s (c ∷ rest) n best rules)
+module _ {v₀ v w : View} {s t : State} {text rest : List ℕ} {c n k : ℕ} {best : Option Ended} {rules' : Rules} (o : Sought v₀ text v s (c ∷ rest) n best)
     (e : is_empty s ≡ false) (x : Works ((s, c) ∷ []) k v w) (g : t ≡ goes v s c) (r : rules' ≡ w.book.meaning.ended t) where
   parts_step : text ≡ (o.past ++ c ∷ []) ++ rest
   parts_step = o.parts ∙ sym (append_assoc o.past (c ∷ []) rest)
@@ -69,7 +78,7 @@ module _ {v₀ v w : View} {s t : State} {text rest : List ℕ} {c n k best : �
       ∙ sym r
 
   -- the part read ends no rule
-  pub sought_past : no_rule rules' ≡ true → Sought v₀ text w t rest (n + k) best rules
+  pub sought_past : no_rule rules' ≡ true → Sought v₀ text w t rest (n + k) best
   sought_past none =
       let l = length-append o.past (c ∷ []) in
       let b = o.within in
@@ -87,37 +96,35 @@ module _ {v₀ v w : View} {s t : State} {text rest : List ℕ} {c n k best : �
       }
 
   -- the part read ends a rule
-  pub sought_here : {best' : ℕ} → no_rule rules' ≡ false → best' + length rest ≡ length text → Sought v₀ text w t rest (n + k) best' rules'
-  sought_here {best'} some q =
+  pub sought_here : (i : ℕ) → no_rule rules' ≡ false → i + length rest ≡ length text → Sought v₀ text w t rest (n + k) (Some (i, rules'))
+  sought_here i some q =
       let l = length-append o.past (c ∷ []) in
       let z = ap length o.parts ∙ length-append o.past (c ∷ rest) in
-      let j : best' ≡ length o.past + 1 = omega arith in
+      let j : i ≡ length o.past + 1 = omega arith in
       record {
         onward = onward_step o.onward e x g;
         past = o.past ++ c ∷ [];
         parts = parts_step;
         here = here_step;
         within = omega arith;
-        ends = inr (some, sym (ended_here best' j));
-        longer = λ i a h. absurd (omega arith);
+        ends = (omega arith, some, sym (ended_here i j));
+        longer = λ l' a h. absurd (omega arith);
       }
 
--- the same by other names
-pub sought_as : {v₀ v : View} {s : State} {text rest : List ℕ} {n n' best best' : ℕ} {rules rules' : Rules} → Sought v₀ text v s rest n best rules
-    → n' ≡ n → best' ≡ best → rules' ≡ rules → Sought v₀ text v s rest n' best' rules'
-sought_as {v₀} {v} {s} {text} {rest} {n} {n'} {best} {best'} {rules} {rules'} o p q r =
-    subst (λ (k : ℕ). Sought v₀ text v s rest k best' rules') (sym p)
-    (subst (λ (k : ℕ). Sought v₀ text v s rest n k rules') (sym q) (subst (Sought v₀ text v s rest n best) (sym r) o))
+-- the same by another count
+pub sought_as : {v₀ v : View} {s : State} {text rest : List ℕ} {n n' : ℕ} {best best' : Option Ended} → Sought v₀ text v s rest n best
+    → n' ≡ n → best' ≡ best → Sought v₀ text v s rest n' best'
+sought_as {v₀} {v} {s} {text} {rest} o p q = subst₂ (Sought v₀ text v s rest) (sym p) (sym q) o
 
 -- ---- the search is over
 
-pub sought_within : {v₀ v : View} {s : State} {text rest : List ℕ} {n best : ℕ} {rules : Rules} → Sought v₀ text v s rest n best rules
-    → best + length rest ≤ length text
+pub sought_within : {v₀ v : View} {s : State} {text rest : List ℕ} {n : ℕ} {best : Option Ended} → Sought v₀ text v s rest n best
+    → best_length best + length rest ≤ length text
 sought_within {v₀} {v} {s} {text} {rest} o = let l = ap length o.parts ∙ length-append o.past rest in let b = o.within in omega arith
 
 -- no longer beginning ends a rule
-over_longer : {v₀ v : View} {s : State} {text rest : List ℕ} {n best : ℕ} {rules : Rules} → Lawful v₀.book.meaning → Sought v₀ text v s rest n best rules
-    → Over s rest → (k : ℕ) → best < k → k ≤ length text → no_rule (ended_at v₀ text k) ≡ true
+over_longer : {v₀ v : View} {s : State} {text rest : List ℕ} {n : ℕ} {best : Option Ended} → Lawful v₀.book.meaning → Sought v₀ text v s rest n best
+    → Over s rest → (k : ℕ) → best_length best < k → k ≤ length text → no_rule (ended_at v₀ text k) ≡ true
 over_longer {v₀} {v} {s} {text} {rest} law o (inl e) k b l =
     let z = ap length (o.parts ∙ ap (λ (cs : List ℕ). o.past ++ cs) e ∙ append-nil o.past) in
     o.longer k b (omega arith)
@@ -142,20 +149,20 @@ reads_search {t} {n} {v} {w} text rest place e =
     → Reads (token text place) t n v w × Reads (peek text place) t n v w) e
     (λ a b. (record { tells = a; works = b }, record { tells = a; works = b }))
 
-module _ {v₀ v : View} {s : State} {rest left : List ℕ} {n best : ℕ} {rules : Rules} (law : Lawful v₀.book.meaning) (o : Sought v₀ rest v s left n best rules)
-    (z : Over s left) (text : List ℕ) (place : ℕ) (d : drop place text ≡ rest) where
-  -- a token was found
-  pub sought_found : 1 ≤ best → Reads (token text place) (matched place best rules) n v₀ v × Reads (peek text place) (matched place best rules) n v₀ v
-  sought_found b = reads_search text rest place d (found o.ends) (onward_works o.onward z)
-    where
-      found : (best ≡ 0) ⊎ ((no_rule rules ≡ false) × (rules ≡ ended_at v₀ rest best)) → Searches v₀.book.meaning (goes v₀) rest place (matched place best rules)
-      found (inl q) = absurd (omega arith)
-      found (inr q) =
-          let l = sought_within o in
-          subst (λ (rs : Rules). Searches v₀.book.meaning (goes v₀) rest place (matched place best rs)) (sym q.1)
-          (finds best (record { some = b; within = omega arith; ends = ap no_rule (sym q.1) ∙ q.0; longer = over_longer law o z }))
+-- what the search tells: the token that it found at the place, or refusal 14 there
+abbrev pub ended_told : ℕ → Option Ended → Told
+ended_told place None = refused 14 1 place
+ended_told place (Some b) = matched place b.0 b.1
 
-  -- no token was found
-  pub sought_missed : best ≡ 0 → Reads (token text place) (refused 14 1 place) n v₀ v × Reads (peek text place) (refused 14 1 place) n v₀ v
-  sought_missed b =
-      reads_search text rest place d (fails (λ k l h. over_longer law o z k (omega arith) h)) (onward_works o.onward z)
+module _ {v₀ v : View} {s : State} {rest left : List ℕ} {n : ℕ} (law : Lawful v₀.book.meaning) (z : Over s left) (place : ℕ) where
+  searches : (best : Option Ended) → Sought v₀ rest v s left n best → Searches v₀.book.meaning (goes v₀) rest place (ended_told place best)
+  searches None o = fails (λ k l h. over_longer law o z k (omega arith) h)
+  searches (Some b) o =
+      let l = sought_within o in
+      let e = o.ends in
+      subst (λ (rs : Rules). Searches v₀.book.meaning (goes v₀) rest place (matched place b.0 rs)) (sym e.2)
+      (finds b.0 (record { some = e.0; within = omega arith; ends = ap no_rule (sym e.2) ∙ e.1; longer = over_longer law o z }))
+
+  pub sought_reads : {best : Option Ended} → Sought v₀ rest v s left n best → (text : List ℕ) → drop place text ≡ rest
+      → Reads (token text place) (ended_told place best) n v₀ v × Reads (peek text place) (ended_told place best) n v₀ v
+  sought_reads {best} o text d = reads_search text rest place d (searches best o) (onward_works o.onward z)

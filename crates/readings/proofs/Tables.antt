@@ -1,7 +1,7 @@
 -- What one more kept step does to a table. Assumes nothing.
 use Rattle.std.proofs.Common.{◌≡◌, ℕ, Bool, true, false, cond, ◌&&◌, ◌||◌, eqb, leb, List, [], ◌∷◌, ◌++◌, length, is_some, Some, None, unwrap_or, refl, ◌∙◌, ap₂}
 use Rattle.std.proofs.lemmas.Bool.{and_parts, or_left, eqb-true, cond-true, cond_both}
-use Rattle.states.specs.declared.state.State.{State}
+use Rattle.states.specs.Sets.{State}
 use Rattle.states.specs.Sets.{same}
 use Rattle.states.proofs.Members.{same_true}
 use Rattle.books.specs.Meaning.{Meaning}

@@ -1,6 +1,6 @@
 -- What each call does to a reader v: what it tells, how many steps it works out, and the reader w after it.
 use Rattle.std.specs.Prelude.{◌≡◌, ℕ, ◌+◌, ◌<◌, false, not, ◌⊎◌, List, is_some, filter}
-use Rattle.states.specs.declared.state.State.{State}
+use Rattle.states.specs.Sets.{State}
 use Rattle.books.specs.Meaning.{Meaning, Within, Lawful, touches}
 use Rattle.books.specs.Changes.{Added, Deleted, Changed}
 use Rattle.books.specs.declared.faults.BookFault.{BookFault}

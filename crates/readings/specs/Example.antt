@@ -1,7 +1,7 @@
 -- What histories promise is not empty: there is a history that meets every premise.
 use Rattle.std.specs.Prelude.{◌≡◌, ℕ, ◌+◌, ◌≤◌, true, false, [], ◌∷◌, length, Some}
 use Rattle.std.specs.List.{AllByRecursion}
-use Rattle.states.specs.declared.rules.Rules.{Rules}
+use Rattle.states.specs.Sets.{Rules}
 use Rattle.states.specs.Sets.{no_rule}
 use Rattle.books.specs.Meaning.{Lawful}
 use Rattle.kept.specs.Steps.{most}

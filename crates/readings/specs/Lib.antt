@@ -1,5 +1,6 @@
 -- A reader as its callers see it, what each call does to it, and what every history of calls promises.
 pub mod Views
+pub mod OneProof
 pub mod Runs
 pub mod Readings
 pub mod Calls

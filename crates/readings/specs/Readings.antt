@@ -1,7 +1,7 @@
 -- Readings: what they tell, and what they leave. A text is a list of codes.
 use Rattle.std.specs.Prelude.{◌≡◌, ℕ, ◌<◌, ◌≤◌, true, false, List, [], ◌∷◌, length, take, drop}
-use Rattle.states.specs.declared.state.State.{State}
-use Rattle.states.specs.declared.rules.Rules.{Rules}
+use Rattle.states.specs.Sets.{State}
+use Rattle.states.specs.Sets.{Rules}
 use Rattle.states.specs.Sets.{no_rule}
 use Rattle.books.specs.Meaning.{Meaning}
 use Rattle.books.specs.Texts.{after}
@@ -85,9 +85,9 @@ pub record ReadsBy (next : State → ℕ → State) (x : Reading) (t : Told) (n 
 abbrev pub Reads : Reading → Told → ℕ → View → View → Type 0
 Reads x t n v w = ReadsBy (goes v) x t n v w
 
--- Where every kept step is the book's, a reading goes where the book says, and every kept step is the book's after it.
+-- as the book means, and every kept step is the book's after it
 abbrev pub ReadsAsMeant : Reading → Told → ℕ → View → View → Type 0
-ReadsAsMeant x t n v w = Sound v → ReadsBy v.book.meaning.next x t n v w × Sound w
+ReadsAsMeant x t n v w = ReadsBy v.book.meaning.next x t n v w × Sound w
 
 -- what the bare reading tells, which takes every step from the book's meaning
 abbrev pub Bare : Meaning → Reading → Told → Type 0

@@ -1,7 +1,7 @@
 -- What a reading leads through, and what it works out on the way.
 use Rattle.std.specs.Prelude.{◌≡◌, ℕ, ◌+◌, min, Bool, cond, List, [], ◌∷◌, length, is_some}
 use Rattle.std.specs.Option.{unwrap_or}
-use Rattle.states.specs.declared.state.State.{State}
+use Rattle.states.specs.Sets.{State}
 use Rattle.states.specs.Sets.{is_empty}
 use Rattle.books.specs.Meaning.{Meaning, Model, asked}
 use Rattle.kept.specs.Steps.{Step, step, found, keep}

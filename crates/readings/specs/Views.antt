@@ -21,6 +21,10 @@ pub record Right (m : Meaning) (x : Step) : Type 0 where
   pub live : Within m x.state
   pub next : x.next ≡ m.next x.state x.code
 
+-- all of these steps are the book's
+abbrev pub AllRight : Meaning → List Step → Type 0
+AllRight m ks = AllByRecursion (Right m) ks
+
 -- every kept step is the book's
 abbrev pub Sound : View → Type 0
-Sound v = AllByRecursion (Right v.book.meaning) v.kept
+Sound v = AllRight v.book.meaning v.kept

@@ -1,14 +1,14 @@
 -- A replay under way.
 use Rattle.std.proofs.Common.{◌≡◌, ℕ, List, [], ◌∷◌, ◌++◌, map, length, sym, refl, ap, ◌∙◌, subst, ap₂, arith}
-use Rattle.std.proofs.lemmas.List.{map-append}
+use Rattle.std.proofs.lemmas.List.{map_push}
 use Rattle.books.specs.Meaning.{Model, Lawful}
 use Rattle.readings.specs.Views.{View, fresh}
 use Rattle.readings.specs.Readings.{Told}
-use Rattle.readings.specs.Calls.{Call, Does}
+use Rattle.readings.specs.Calls.{Call}
 use Rattle.readings.specs.Entries.{Entry}
 use Rattle.readings.specs.Changing.{Chain}
 use Rattle.readings.specs.Histories.{History}
-use Rattle.readings.proofs.Reaches.{Reaches, reaches_more, reaches_chain, chain_history}
+use Rattle.readings.proofs.Reaches.{Reaches, reaches_more, reaches_chain}
 use Rattle.readings.proofs.Stand.{stands}
 use Rattle.replays.specs.Replays.{call_of, told_of, count_of, Replayed, ReplayedBy}
 use Rattle.replays.specs.declared.log.Ask.{Ask}
@@ -25,7 +25,7 @@ pub record Replaying {S : Type 0} (code : S → ℕ) (does : Call → Told → �
 -- one more on both sides of an equation of maps
 map_more : {X Y Z : Type 0} (f : X → Z) (g : Y → Z) (xs : List X) (ys : List Y) (x : X) (y : Y) → map f xs ≡ map g ys → f x ≡ g y
     → map f (xs ++ x ∷ []) ≡ map g (ys ++ y ∷ [])
-map_more f g xs ys x y p q = map-append f xs (x ∷ []) ∙ ap₂ (λ zs z. zs ++ z ∷ []) p q ∙ sym (map-append g ys (y ∷ []))
+map_more f g xs ys x y p q = map_push f xs x ∙ ap₂ (λ zs z. zs ++ z ∷ []) p q ∙ sym (map_push g ys y)
 
 module _ {S : Type 0} (code : S → ℕ) (does : Call → Told → ℕ → View → View → Type 0) (v : View) where
   pub replaying_none : (log : List Reply) → log ≡ [] → Replaying code does v [] log v
@@ -69,14 +69,3 @@ module _ {S : Type 0} (code : S → ℕ) (does : Call → Told → ℕ → View 
     history = histories p.entries p.chain;
     stands = p.stands;
   }
-
--- a log of calls that do what they do over every book is a history
-pub replaying_done : {S : Type 0} (code : S → ℕ) (v : View) {asks all : List (Ask S)} {log : List Reply} {w : View} (b : Model) (edition : ℕ)
-    → v ≡ fresh b edition → Lawful b.meaning → all ≡ asks → Replaying code Does v asks log w → Replayed code (fresh b edition) all log
-replaying_done code v b edition new l e p =
-    replayed_by code Does (fresh b edition) (chain_history _) (replaying_done_by code Does v b edition new l (chain_history _) e p)
-
--- what is left of a list that is used up
-pub none_left : {X : Type 0} (xs : List X) → length xs ≡ 0 → xs ≡ []
-none_left [] e = refl
-none_left (x ∷ xs) e = absurd (omega arith)

@@ -1,16 +1,15 @@
 -- A list of calls run on a new reader, and its log.
-use Rattle.std.specs.Prelude.{◌≡◌, ℕ, min, cond, List, map, length, vec_items}
-use Rattle.books.specs.Refusals.{told}
+use Rattle.std.specs.Prelude.{◌≡◌, ℕ, min, List, map, length, vec_items}
 use Rattle.readings.specs.Views.{View}
-use Rattle.readings.specs.Readings.{Told, refusing}
+use Rattle.readings.specs.Readings.{Told}
 use Rattle.readings.specs.Readings.Reading.{whole, token, peek, feed}
-use Rattle.readings.specs.Readings.Told.{changed, ended, matched}
+use Rattle.readings.specs.Readings.Told.{ended}
 use Rattle.readings.specs.Calls.{Call}
 use Rattle.readings.specs.Calls.Call.{read, add, delete, begin, finish}
 use Rattle.readings.specs.Entries.{Entry}
 use Rattle.readings.specs.Changing.{Chain}
 use Rattle.readings.specs.Histories.{History, Stands}
-use Rattle.reader.specs.Answers.{walk_told}
+use Rattle.reader.specs.Answers.{token_told, token_count, walk_told, fed_told, fed_count, finish_told, change_told}
 use Rattle.replays.specs.declared.log.Ask.{Ask}
 use Rattle.replays.specs.declared.log.Ask.TheVariants as ask
 use Rattle.replays.specs.declared.log.Reply.{Reply}
@@ -27,26 +26,22 @@ call_of code (ask.Finish walk) = finish walk.edition walk.state
 call_of code (ask.Add rule kind bytes) = add rule kind (vec_items bytes)
 call_of code (ask.Delete rule) = delete rule
 
--- what a reply tells, and the steps that it says were worked out
+-- what a reply tells, and the steps that it says were worked out: none where it has no count
 abbrev pub told_of : Reply → Told
 told_of (reply.Read a) = ended a.rules
-told_of (reply.Token t) = matched t.place t.length t.rules
-told_of (reply.Walk w) = walk_told w
-told_of (reply.Fed f) = walk_told f.walk
-told_of (reply.Finished rules) = ended rules
-told_of (reply.Changed e) = changed e
-told_of (reply.Refused e) = refusing e
-told_of (reply.HandedBack h) = refusing h.refusal
+told_of (reply.Token r) = token_told r
+told_of (reply.Begun w) = walk_told w
+told_of (reply.Fed r) = fed_told r
+told_of (reply.Finished r) = finish_told r
+told_of (reply.Changed r) = change_told r
 
 abbrev pub count_of : Reply → ℕ
 count_of (reply.Read a) = a.count
-count_of (reply.Token t) = t.count
-count_of (reply.Walk w) = 0
-count_of (reply.Fed f) = cond f.worked 1 0
-count_of (reply.Finished rules) = 0
-count_of (reply.Changed e) = 0
-count_of (reply.Refused e) = (told e).count
-count_of (reply.HandedBack h) = (told h.refusal).count
+count_of (reply.Token r) = token_count r
+count_of (reply.Begun w) = 0
+count_of (reply.Fed r) = fed_count r
+count_of (reply.Finished r) = 0
+count_of (reply.Changed r) = 0
 
 -- The log is a history of the reader v, of exactly these calls, and its readings stand.
 pub record Replayed {S : Type 0} (code : S → ℕ) (v : View) (asks : List (Ask S)) (log : List Reply) : Type 0 where

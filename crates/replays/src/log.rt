@@ -6,24 +6,35 @@ use states::Rules;
 #[derive(Drop)]
 pub enum Ask<S> {
     Read(Vec<S>),
-    Token(Vec<S>, usize),
-    Peek(Vec<S>, usize),
+    Token {
+        text: Vec<S>,
+        place: usize,
+    },
+    Peek {
+        text: Vec<S>,
+        place: usize,
+    },
     Begin,
-    Feed(Walk, S),
+    Feed {
+        walk: Walk,
+        symbol: S,
+    },
     Finish(Walk),
-    Add(u32, u32, Vec<u8>),
+    Add {
+        rule: u32,
+        kind: u32,
+        bytes: Vec<u8>,
+    },
     Delete(u32),
 }
 
-// What a call answered.
+// What a call answered, as the reader answered it. A peek answers a token too.
 #[derive(Drop)]
 pub enum Reply {
     Read(Answer),
-    Token(Token),
-    Walk(Walk),
-    Fed(Fed),
-    Finished(Rules),
-    Changed(u32),
-    Refused(Refusal),
-    HandedBack(HandedBack),
+    Token(Result<Token, Refusal>),
+    Begun(Walk),
+    Fed(Result<Fed, HandedBack>),
+    Finished(Result<Rules, HandedBack>),
+    Changed(Result<u32, Refusal>),
 }

@@ -7,42 +7,24 @@ ghost use Rattle.replays.specs.Replays.{call_of, told_of, count_of, Replayed, Re
 
 use crate::log::{Ask, Reply};
 use books::ChangingBook;
-use reader::{Cursor, NoMemory, Reader};
+use reader::{Cursor, Reader};
 use std::alloc::{AllocError, Global};
 
 // Does one call, and answers its reply.
 fn perform<B: ChangingBook>(reader: &mut Reader<B>, ask: Ask<B::Symbol>) -> Reply
-    ensures does { Does (call_of B.Symbol.Symbol.code ask) (told_of result) (count_of result) (view B.Book.model reader.old) (view B.Book.model reader.new) }
+    ensures does { Does (call_of B.Symbol.Symbol.code ask) (told_of result) (count_of result) (view reader.old) (view reader.new) }
     ensures acts { Acts B.ChangingBook.refusal B.ChangingBook.grows B.ChangingBook.shrinks (call_of B.Symbol.Symbol.code ask) (told_of result) (count_of result)
-        (view B.Book.model reader.old) (view B.Book.model reader.new) }
+        (view reader.old) (view reader.new) }
 {
     match ask {
         Ask::Read(text) => Reply::Read(reader.read(&text)),
-        Ask::Token(text, place) => match reader.token(&mut Cursor::new(&text, place)) {
-            Ok(token) => Reply::Token(token),
-            Err(refusal) => Reply::Refused(refusal),
-        },
-        Ask::Peek(text, place) => match reader.peek(&mut Cursor::new(&text, place)) {
-            Ok(token) => Reply::Token(token),
-            Err(refusal) => Reply::Refused(refusal),
-        },
-        Ask::Begin => Reply::Walk(reader.begin()),
-        Ask::Feed(walk, symbol) => match reader.feed(walk, symbol) {
-            Ok(fed) => Reply::Fed(fed),
-            Err(back) => Reply::HandedBack(back),
-        },
-        Ask::Finish(walk) => match reader.finish(walk) {
-            Ok(rules) => Reply::Finished(rules),
-            Err(back) => Reply::HandedBack(back),
-        },
-        Ask::Add(rule, kind, bytes) => match reader.add(rule, kind, &bytes) {
-            Ok(edition) => Reply::Changed(edition),
-            Err(refusal) => Reply::Refused(refusal),
-        },
-        Ask::Delete(rule) => match reader.delete(rule) {
-            Ok(edition) => Reply::Changed(edition),
-            Err(refusal) => Reply::Refused(refusal),
-        },
+        Ask::Token { text, place } => Reply::Token(reader.token(&mut Cursor::new(&text, place))),
+        Ask::Peek { text, place } => Reply::Token(reader.peek(&mut Cursor::new(&text, place))),
+        Ask::Begin => Reply::Begun(reader.begin()),
+        Ask::Feed { walk, symbol } => Reply::Fed(reader.feed(walk, symbol)),
+        Ask::Finish(walk) => Reply::Finished(reader.finish(walk)),
+        Ask::Add { rule, kind, bytes } => Reply::Changed(reader.add(rule, kind, &bytes)),
+        Ask::Delete(rule) => Reply::Changed(reader.delete(rule)),
     }
 }
 
@@ -58,10 +40,7 @@ pub fn replay<B: ChangingBook + Drop>(
         (fresh (B.Book.model book) edition) asks.items log.items) }
 {
     let mut log = Vec::new(heap);
-    let mut reader = match Reader::new(heap, book, edition) {
-        Ok(reader) => reader,
-        Err(NoMemory { book: _ }) => return Err(AllocError),
-    };
+    let mut reader = Reader::new(heap, book, edition)?;
     for ask in asks {
         log.push(perform(&mut reader, ask))?;
     }

@@ -1,10 +1,10 @@
 -- The arguments of a new reader are its book's name and an edition, parted by the first space.
 use Rattle.std.proofs.Common.{◌≡◌, ℕ, List, ◌∷◌, ◌++◌, Some, Option, ap, ◌∙◌, subst}
-use Rattle.scripts.specs.Parts.{Parts}
-use Rattle.scripts.specs.Numerals.{Number32}
+use Rattle.lines.specs.Parts.{Parts}
+use Rattle.lines.specs.Numerals.{Number32}
 use Rattle.scripts.specs.Lines.{NewReader, book_word}
 use Rattle.scripts.specs.declared.command.BookName.{BookName}
-use Rattle.scripts.proofs.Parting.{one_parting}
+use Rattle.lines.proofs.Parting.{one_parting}
 use Rattle.scripts.proofs.Words.{book_no_space}
 
 module _ (text first : List ℕ) (rest : Option (List ℕ)) (parts : Parts 32 text first rest) (b : BookName) (n : ℕ) where

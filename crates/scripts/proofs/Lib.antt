@@ -1,8 +1,3 @@
-mod Pairs
-mod Parting
-mod Words
-mod Appending
 mod Books
-mod Listing
-mod Running
 mod Spelling
+mod Words

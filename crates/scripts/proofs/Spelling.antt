@@ -1,14 +1,14 @@
 -- A line spells a command exactly where its first word is the command's, and what stands behind it are its arguments.
 use Rattle.std.proofs.Common.{◌≡◌, ℕ, ◌↔◌, List, ◌∷◌, ◌++◌, Some, None, Ok, Err, Option, Result, sym, refl, ap, ◌∙◌, subst, Bor, MatchResult}
-use Rattle.scripts.specs.Parts.{Parts}
-use Rattle.scripts.specs.Numerals.{Number}
-use Rattle.scripts.specs.Hex.{Hex}
+use Rattle.lines.specs.Parts.{Parts}
+use Rattle.lines.specs.Numerals.{Number}
+use Rattle.lines.specs.Hex.{Hex}
 use Rattle.scripts.specs.Lines.{Spells, Answers, NewReader}
 use Rattle.scripts.specs.declared.command.BookName.{BookName}
-use Rattle.scripts.specs.declared.command.Expected.{Expected}
+use Rattle.lines.specs.declared.command.Expected.{Expected}
 use Rattle.scripts.specs.declared.command.Command.{Command}
 use Rattle.scripts.specs.declared.command.Command.TheVariants.{New, Read, ReadHex, Kind, Tally, Edition, Note}
-use Rattle.scripts.proofs.Parting.{one_parting}
+use Rattle.lines.proofs.Parting.{one_parting}
 use Rattle.scripts.proofs.Words.{Word, new, read, readx, kind, tally, edition, note, spelling, one_word, word_no_space}
 
 -- what stands behind a word makes it the command k a, for an a that R reads

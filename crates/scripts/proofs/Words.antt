@@ -6,7 +6,7 @@ use Rattle.std.specs.Str.{bytes_eq}
 use Rattle.std.proofs.ByRecursion.{IsAscii-from_all, All-weaker, Decides-by_and}
 use Rattle.std.proofs.lemmas.Str.{IsUtf8-from_ascii}
 use Rattle.std.proofs.lemmas.Bool.Decides.{nat_tests}
-use Rattle.scripts.specs.Parts.{Lacks}
+use Rattle.lines.specs.Parts.{Lacks}
 use Rattle.scripts.specs.Lines.{book_word}
 use Rattle.scripts.specs.declared.command.BookName.{BookName}
 use Rattle.scripts.specs.declared.command.BookName.TheVariants.{Numbers}

@@ -1,9 +1,4 @@
--- Which lines spell which command.
-pub mod Parts
-pub mod Numerals
-pub mod Hex
+-- Which lines spell which command, and what each does.
 pub mod Lines
-pub mod Texts
 pub mod Sessions
-pub mod Scripts
 pub mod Views

@@ -1,10 +1,13 @@
 -- Which lines spell which command.
-use Rattle.std.specs.Prelude.{◌≡◌, ℕ, List, [], ◌∷◌, ◌++◌, Some, codes, Option, Result, MatchResult}
-use Rattle.scripts.specs.Numerals.{Number, Number32}
-use Rattle.scripts.specs.Hex.{Hex}
+use Rattle.std.specs.Prelude.{◌≡◌, ℕ, List, ◌∷◌, ◌++◌, Some, codes, Option, Result, MatchResult}
+use Rattle.lines.specs.Numerals.{Number, Number32}
+use Rattle.lines.specs.Hex.{Hex}
+use Rattle.lines.specs.Lines.{book_word as any_word}
+use Rattle.lines.specs.declared.command.BookName.{BookName as AnyName}
+use Rattle.lines.specs.declared.command.BookName.TheVariants as name
 use Rattle.scripts.specs.declared.command.BookName.{BookName}
 use Rattle.scripts.specs.declared.command.BookName.TheVariants.{Numbers}
-use Rattle.scripts.specs.declared.command.Expected.{Expected}
+use Rattle.lines.specs.declared.command.Expected.{Expected}
 use Rattle.scripts.specs.declared.command.Command.{Command}
 use Rattle.scripts.specs.declared.command.Command.TheVariants.{New, Read, ReadHex, Kind, Tally, Edition, Note}
 
@@ -13,13 +16,12 @@ abbrev pub Argument : {A : Type 0} → (List ℕ → A → Type 0) → Option (L
 Argument {A} R rest r =
     MatchResult r (λ a. (t : List ℕ) × (rest ≡ Some t) × R t a) (λ _. (t : List ℕ) (a : A) → rest ≡ Some t → R t a → ⊥)
 
--- an empty line or a comment
-abbrev pub Skipped : List ℕ → Type 0
-Skipped [] = Unit {0}
-Skipped (first ∷ rest) = first ≡ 35
+-- a book by its name among all books
+abbrev pub shared : BookName → AnyName
+shared Numbers = name.Numbers
 
 abbrev pub book_word : BookName → List ℕ
-book_word Numbers = codes "numbers"
+book_word book = any_word (shared book)
 
 -- a book's name, a space and an edition
 abbrev pub NewReader : List ℕ → BookName → ℕ → Type 0

@@ -1,15 +1,16 @@
 // The arguments of a command: what stands behind its word and a space, if there is a space.
 ghost use Rattle.std.specs.Prelude.{◌≡◌, None, MatchResult, ◌≢◌};
 ghost use Rattle.std.specs.Option.{option_map};
-ghost use Rattle.scripts.specs.Hex.{Hex};
+ghost use Rattle.lines.specs.Hex.{Hex};
 ghost use Rattle.scripts.specs.Lines.{Argument, NewReader, book_word};
-ghost use Rattle.scripts.specs.Numerals.{Number, Number32};
+ghost use Rattle.lines.specs.Numerals.{Number, Number32};
 ghost use Rattle.scripts.specs.declared.command.BookName.{BookName};
 
-use crate::command::{BookName, Command, Expected};
-use crate::decimals::{NoDecimal, decimal};
-use crate::hex::is_hex;
-use crate::parts::{Parted, SPACE, part};
+use crate::command::{BookName, Command};
+use lines::{Expected, Parted, decimal, is_hex, part, saturated};
+
+// Parts a word from what follows it.
+pub(crate) const SPACE: u8 = b' ';
 
 // A command that has no argument, so that not even a space may follow its word.
 pub(crate) fn alone<'a>(rest: Option<&[u8]>, command: Command<'a>) -> Result<Command<'a>, Expected>
@@ -47,13 +48,9 @@ pub(crate) fn hex_digits(rest: Option<&[u8]>) -> Result<&[u8], Expected>
 pub(crate) fn number(rest: Option<&[u8]>) -> Result<u32, Expected>
     ensures { Argument Number (option_map (λ x. x.now) rest.entry) result }
 {
-    let Some(digits) = rest else {
-        return Err(Expected::Number);
-    };
-    match decimal(digits) {
-        Ok(n) => Ok(n),
-        Err(NoDecimal::TooLarge) => Ok(u32::MAX),
-        Err(NoDecimal::NoDigits) => Err(Expected::Number),
+    match rest {
+        Some(digits) => saturated(digits),
+        None => Err(Expected::Number),
     }
 }
 

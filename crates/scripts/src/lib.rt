@@ -1,24 +1,16 @@
-// The script language: which lines spell which command, the text of answers, and sessions that run scripts.
+// The script language over the number book alone: which lines spell which command, and sessions that run one line.
 #![tactic(auto)]
 
-pub mod answers;
 mod arguments;
-mod asking;
 mod command;
-mod decimals;
-mod fault;
-mod hex;
-mod lines;
-mod parts;
-mod script;
+mod parsing;
 mod session;
 
-pub use command::{BookName, Command, Expected};
-pub use decimals::{NoDecimal, decimal};
-pub use fault::Fault;
-pub use hex::{NoBytes, bytes_of, is_hex};
-pub use lines::{is_skipped, parse};
-pub use script::Script;
+pub use answers;
+pub use command::{BookName, Command};
+pub use lines::{Expected, NoBytes, NoDecimal, bytes_of, decimal, is_hex, is_skipped};
+pub use parsing::parse;
+pub use passes::{Fault, LineRunner, Script};
 pub use session::Session;
 
 #[cfg(test)]

@@ -1,2 +1,1 @@
 mod Dispatch
-mod Running

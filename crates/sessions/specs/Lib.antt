@@ -1,4 +1,3 @@
--- Sessions and scripts.
+-- Sessions.
 pub mod Sessions
-pub mod Scripts
 pub mod Views

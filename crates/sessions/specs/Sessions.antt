@@ -8,7 +8,6 @@ use Rattle.books.specs.declared.faults.BookFault.{BookFault}
 use Rattle.books.specs.declared.refusal.Refusal.TheVariants.{NoSuchEvent}
 use Rattle.books.specs.Texts.{meets}
 use Rattle.books.specs.Changes.{delete_refusal}
-use Rattle.readings.specs.Views.{fresh}
 use Rattle.readings.specs.Calls.Call.{add, delete}
 use Rattle.reader.specs.Answers.{change_refusal}
 use Rattle.numbers.specs.Number.{number_model}
@@ -25,22 +24,20 @@ use Rattle.lines.specs.declared.command.Task.{Task}
 use Rattle.lines.specs.declared.command.Command.{Command}
 use Rattle.lines.specs.declared.command.Command.TheVariants as command
 use Rattle.answers.specs.Texts.{new_line, last_line, refused_line, shown_bytes, shown_events}
-use Rattle.contexts.specs.Uses.{Use, Changes, Obeys, Shows, Takes, wanting, wanting_cursor, wanting_for}
-use Rattle.contexts.specs.declared.fault.Fault.{Fault}
-use Rattle.contexts.specs.declared.fault.Fault.TheVariants.{Malformed, NoMemory}
+use Rattle.contexts.specs.Uses.{Use, new_use, Changes, Obeys, Shows, Takes, Wants, wanting, wanting_cursor, wanting_for}
 
 -- The name of the book in use, and the reader over it.
 pub record Here : Type 0 where
   pub book : BookName
   pub context : Use
 
--- the reader changes as R says, over the same book
-abbrev pub Within : (Use → Use → List ℕ → Type 0) → Here → Here → List ℕ → Type 0
-Within R h k answer = (k.book ≡ h.book) × R h.context k.context answer
+-- the reader changes as R says of the book in use, which stays
+abbrev pub Within : (BookName → Use → Use → List ℕ → Type 0) → Here → Here → List ℕ → Type 0
+Within R h k answer = (k.book ≡ h.book) × R h.book h.context k.context answer
 
--- a new reader, with no cursor and no walk
-abbrev pub new_use : Model → ℕ → Use
-new_use model edition = record { reader = fresh model edition; cursor = None; walk = None }
+-- what is missing over the book in use, as L says
+abbrev pub Missing : (BookName → Use → Expected → Type 0) → Here → Expected → Type 0
+Missing L h x = L h.book h.context x
 
 -- ── Changes ──
 
@@ -81,12 +78,18 @@ wanting_change Templates = None
 wanting_change Expressions = None
 wanting_change Events = None
 
+abbrev pub LacksChange : BookName → Use → Expected → Type 0
+LacksChange book u x = wanting_change book ≡ Some x
+
 -- and where a rule is added by what a person types, a book whose rules can be typed
 abbrev pub wanting_typed : BookName → Option Expected
 wanting_typed Numbers = Some expected.Changing
 wanting_typed Templates = None
 wanting_typed Expressions = Some expected.Code
 wanting_typed Events = Some expected.Code
+
+abbrev pub LacksTyped : BookName → Use → Expected → Type 0
+LacksTyped book u x = wanting_typed book ≡ Some x
 
 -- ── Texts ──
 
@@ -137,35 +140,31 @@ NewBook Events b = Blank b
 abbrev pub Runs : Command → Here → Here → List ℕ → Type 0
 Runs (command.New book edition) h k answer =
     (b : Model) × NewBook book b × (k ≡ record { book = book; context = new_use b edition }) × (answer ≡ new_line book edition)
-Runs (command.Add rule kind text) h k answer = Within (Adds h.book rule kind text.now) h k answer
-Runs (command.Code rule kind digits) h k answer = Within (Codes h.book rule kind (written digits.now)) h k answer
-Runs (command.Delete rule) h k answer = Within (Deletes h.book rule) h k answer
-Runs (command.Plain task text) h k answer = Within (TakesText h.book task text.now) h k answer
-Runs (command.Hex task digits) h k answer = Within (TakesText h.book task (written digits.now)) h k answer
-Runs command.Last h k answer = Within (Shows (last_line (shown h.book))) h k answer
-Runs (command.Order order) h k answer = Within (Obeys order) h k answer
+Runs (command.Add rule kind text) h k answer = Within (λ book. Adds book rule kind text.now) h k answer
+Runs (command.Code rule kind digits) h k answer = Within (λ book. Codes book rule kind (written digits.now)) h k answer
+Runs (command.Delete rule) h k answer = Within (λ book. Deletes book rule) h k answer
+Runs (command.Plain task text) h k answer = Within (λ book. TakesText book task text.now) h k answer
+Runs (command.Hex task digits) h k answer = Within (λ book. TakesText book task (written digits.now)) h k answer
+Runs command.Last h k answer = Within (λ book. Shows (last_line (shown book))) h k answer
+Runs (command.Order order) h k answer = Within (λ _. Obeys order) h k answer
 
 -- x is what a command wants that is not there: a book that can be changed, or a cursor, or a walk, or words of events
 abbrev pub Lacks : Command → Here → Expected → Type 0
 Lacks (command.New book edition) h x = ⊥
-Lacks (command.Add rule kind text) h x = wanting_typed h.book ≡ Some x
-Lacks (command.Code rule kind digits) h x = wanting_change h.book ≡ Some x
-Lacks (command.Delete rule) h x = wanting_change h.book ≡ Some x
-Lacks (command.Plain task text) h x = LacksText h.book task text.now h.context x
-Lacks (command.Hex task digits) h x = LacksText h.book task (written digits.now) h.context x
-Lacks command.Last h x = wanting_cursor h.context ≡ Some x
-Lacks (command.Order order) h x = wanting order h.context ≡ Some x
+Lacks (command.Add rule kind text) h x = Missing LacksTyped h x
+Lacks (command.Code rule kind digits) h x = Missing LacksChange h x
+Lacks (command.Delete rule) h x = Missing LacksChange h x
+Lacks (command.Plain task text) h x = Missing (λ book. LacksText book task text.now) h x
+Lacks (command.Hex task digits) h x = Missing (λ book. LacksText book task (written digits.now)) h x
+Lacks command.Last h x = Missing (λ _. Wants wanting_cursor) h x
+Lacks (command.Order order) h x = Missing (λ _. Wants (wanting order)) h x
 
--- A command that lacks what is expected is not run, and changes nothing. Where there is no memory, the answer may be written in
--- part.
-abbrev pub Misses : {S : Type 0} → (Expected → Type 0) → Fault → S → S → List ℕ → List ℕ → Type 0
-Misses lacks (Malformed x) s t before after = lacks x × (t ≡ s) × (after ≡ before)
-Misses lacks NoMemory s t before after = Unit {0}
+-- ── Lines ──
+
+-- the line spells a command, which is run and answered
+abbrev pub RunsLine : List ℕ → Here → Here → List ℕ → Type 0
+RunsLine line h k answer = (c : Command) × Spells line c × Runs c h k answer
 
 -- x is expected of a line that cannot be run: it spells no command, or one that lacks x
 abbrev pub Unfit : List ℕ → Here → Expected → Type 0
 Unfit line h x = ((c : Command) → Spells line c → ⊥) ⊎ ((c : Command) × Spells line c × Lacks c h x)
-
--- A line is not run: where it cannot be, session and text stay as they were.
-abbrev pub Unrun : {S : Type 0} → Fault → List ℕ → Here → S → S → List ℕ → List ℕ → Type 0
-Unrun f line h s t before after = Misses (Unfit line h) f s t before after

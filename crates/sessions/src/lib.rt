@@ -1,10 +1,9 @@
-// Sessions, which run one line, and scripts, which run many.
+// Sessions, which run one line over any book. A script runs many of them in one.
 #![tactic(auto)]
 
-mod script;
 mod session;
 
-pub use script::Script;
+pub use passes::{LineRunner, Script};
 pub use session::Session;
 
 #[cfg(test)]

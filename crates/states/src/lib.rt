@@ -1,12 +1,19 @@
 // Sets of positions and sets of rule numbers, as machine words. Every contract speaks of members.
 #![tactic(auto)]
 
-mod rules;
-mod state;
+mod iter;
+mod set;
+mod tables;
 
-pub use rules::Rules;
-pub use state::State;
-pub use state::sets::follow;
+pub use iter::Iter;
+pub use set::{Set, Width, Words};
+pub use tables::follow;
+
+// A set of positions from 0 to 255.
+pub type State = Set<4>;
+
+// A set of rule numbers from 0 to 63.
+pub type Rules = Set<1>;
 
 #[cfg(test)]
 mod tests {
@@ -23,6 +30,16 @@ mod tests {
         assert_eq!(rt; s.pop_lowest(), Some(200));
         assert_eq!(rt; s.pop_lowest(), None);
         assert!(rt; s.is_empty());
+    }
+
+    // The members come one by one, in rising order.
+    #[test]
+    fn members_one_by_one(rt: HostRuntime) {
+        let mut members = State::single(200).with(3).with(128).members();
+        assert_eq!(rt; members.next(), Some(3));
+        assert_eq!(rt; members.next(), Some(128));
+        assert_eq!(rt; members.next(), Some(200));
+        assert_eq!(rt; members.next(), None);
     }
 
     // A step up crosses from one word to the other, and 255 drops out.

@@ -1,8 +1,10 @@
 // Events: what happened (kind) on which machine.
-ghost use Rattle.std.specs.Prelude.{◌≡◌, ◌+◌, ◌*◌, ◌<◌, ◌≤◌, MatchResult};
+ghost use Rattle.std.specs.Prelude.{◌≡◌, ◌+◌, ◌*◌, ◌<◌, ◌≤◌, MatchResult, Some};
+ghost use Rattle.symbols.specs.Texts.{event_words};
 ghost use Rattle.std.proofs.Common.{rules, arith};
 
 use crate::symbol::Symbol;
+use std::fmt;
 
 const MACHINES: u32 = 16;
 
@@ -56,17 +58,23 @@ impl Event {
 impl Symbol for Event {
     const LAST: u16 = 65535;
 
-    ghost last = { 65535 };
+    ghost LAST = { 65535 };
 
     ghost code = { λ e. 4096 * e.machine + e.kind };
 
     ghost apart = { first_of (Prim.search rules, Prim.grind (arith, Self.row.coded.inj)) };
 
-    fn last_code() -> u16 {
-        Self::LAST
-    }
-
     fn code(self) -> u16 {
         4096 * self.machine + self.kind
+    }
+}
+
+// An event is printed as its machine, a point and its kind.
+impl fmt::Display for Event {
+    ghost output = { λ e. Some (event_words e.machine e.kind) };
+
+    fn fmt<W: fmt::Write>(&self, f: &mut fmt::Formatter<W>) -> fmt::Result {
+        let Event { machine, kind, .. } = self;
+        write!(f, "{machine}.{kind}")
     }
 }

@@ -7,19 +7,14 @@ pub trait Symbol: Copy + Drop {
     // The last code.
     const LAST: u16;
 
-    // the last code, for clauses, which cannot name the constant
-    ghost last: { ℕ };
+    ghost LAST: { ℕ };
 
     ghost code: { Self → ℕ };
-
-    // The last code of the kind.
-    fn last_code() -> u16
-        ensures { result ≡ last };
 
     // The symbol's code.
     fn code(self) -> u16
         ensures value { result ≡ code self }
-        ensures bound { result ≤ last };
+        ensures bound { result ≤ LAST };
 
     ghost apart: { (x y : Self) → code x ≡ code y → x ≡ y };
 }
@@ -28,15 +23,11 @@ pub trait Symbol: Copy + Drop {
 impl Symbol for u8 {
     const LAST: u16 = 255;
 
-    ghost last = { 255 };
+    ghost LAST = { 255 };
 
     ghost code = { λ b. b };
 
     ghost apart = { Prim.search rules };
-
-    fn last_code() -> u16 {
-        Self::LAST
-    }
 
     fn code(self) -> u16 {
         u16::from(self)

@@ -2,7 +2,7 @@
 use Rattle.std.proofs.Common.{◌≡◌, ℕ, zero, suc, ◌+◌, ◌*◌, ◌/◌, ◌%◌, ◌<◌, Bool, true, false, cond, ◌&&◌, eqb, ◌⊎◌, ◌↔◌, List, [], ◌∷◌, get_or, is_some, Some, None, Option, sym, refl, ap, ◌∙◌, ap₂, inl, inr, arith}
 use Rattle.std.proofs.lemmas.Bool.{cases_eq, cases_Bool, both_ways, and_parts, and_from, and_left, and_right, eq-eqb, ne_eqb}
 use Rattle.std.proofs.lemmas.Bool.Decides.{same_from_decides}
-use Rattle.states.specs.declared.state.State.{State}
+use Rattle.states.specs.Sets.{State}
 use Rattle.states.specs.Sets.{has, has_rule}
 use Rattle.states.proofs.Members.{same_members, same_rules}
 use Rattle.books.specs.Meaning.{touches, is}
@@ -15,7 +15,7 @@ use Rattle.templates.specs.Laws.{meaning, in_force, same_set, owner_is, owner_fr
 
 -- but for rule r and its positions, the books hold the same
 pub record Alike (r : ℕ) (a b : TemplateBook) : Type 0 where
-  pub kinds : (q : ℕ) → (q ≡ r → ⊥) → get_or b.kinds q None ≡ get_or a.kinds q None
+  pub kinds : (q : ℕ) → (q ≡ r → ⊥) → get_or b.kinds.by_rule q None ≡ get_or a.kinds.by_rule q None
   pub takes : (c p : ℕ) → (p / 32 ≡ r → ⊥) → at b.takes c p ≡ at a.takes c p
   pub ends : (p : ℕ) → (p / 32 ≡ r → ⊥) → has b.ends p ≡ has a.ends p
 
@@ -33,12 +33,12 @@ last_takes_none b c p e = elim (cases_Bool (at b.takes c p)) [
 ]
 
 module _ (r : ℕ) (a b : TemplateBook) (alike : Alike r a b) where
-  owned_same : (p : ℕ) → (p / 32 ≡ r → ⊥) → owned b.kinds p ≡ owned a.kinds p
+  owned_same : (p : ℕ) → (p / 32 ≡ r → ⊥) → owned b.kinds.by_rule p ≡ owned a.kinds.by_rule p
   owned_same p d = ap is_some (alike.kinds (p / 32) d)
 
   pub start_same : (p : ℕ) → (p / 32 ≡ r → ⊥) → has (meaning b).start p ≡ has (meaning a).start p
   start_same p d =
-      same_set (λ p. owned b.kinds p && eqb (p % 32) 0) p (λ p. owned a.kinds p && eqb (p % 32) 0) (ap (λ (x : Bool). x && eqb (p % 32) 0) (owned_same p d))
+      same_set (λ p. owned b.kinds.by_rule p && eqb (p % 32) 0) p (λ p. owned a.kinds.by_rule p && eqb (p % 32) 0) (ap (λ (x : Bool). x && eqb (p % 32) 0) (owned_same p d))
 
   -- ---- what the change leaves
 
@@ -144,7 +144,7 @@ module _ (r : ℕ) (a b : TemplateBook) (alike : Alike r a b) where
       owns : (p : ℕ) → is ((meaning b).owner p) q ≡ eqb (p / 32) q
       owns p = elim (cases_eq (p / 32) r) [
         | inl e ↦ (let other : eqb (p / 32) q ≡ false = ne_eqb (p / 32) q (λ i. d (sym i ∙ e)) in
-            owner_is b p q ∙ and_right (owned b.kinds p) _ other ∙ sym other)
+            owner_is b p q ∙ and_right (owned b.kinds.by_rule p) _ other ∙ sym other)
         | inr e ↦ ap (λ (o : Option ℕ). is o q) (owner_same p e) ∙ was.owns p
       ]
 

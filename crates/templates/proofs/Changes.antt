@@ -2,7 +2,7 @@
 use Rattle.std.proofs.Common.{◌≡◌, ℕ, suc, ◌+◌, ◌-◌, ◌*◌, ◌/◌, ◌%◌, ◌<◌, ◌≤◌, Bool, true, false, cond, not, ◌&&◌, ◌||◌, eqb, leb, ◌⊎◌, List, length, get_or, set, is_some, Some, None, Option, sym, refl, ap, ◌∙◌, subst, ap₂, inl, inr, arith, get_or-set_other}
 use Rattle.std.proofs.lemmas.Bool.{cases_eq, cases_lt, cases_Bool, both_ways, and_parts, and_from, and_left, and_right, eqb-true, eq-eqb, ne_eqb, le-leb, lt-leb}
 use Rattle.std.proofs.lemmas.Bool.Decides.{same_from_decides}
-use Rattle.states.specs.declared.state.State.{State}
+use Rattle.states.specs.Sets.{State}
 use Rattle.states.specs.Sets.{has, has_rule}
 use Rattle.states.proofs.Members.{has_set_of}
 use Rattle.books.specs.Meaning.{is}
@@ -17,23 +17,23 @@ use Rattle.templates.proofs.Alike.{Alike, untouched, start_same, elsewhere}
 
 -- ---- one kind written
 
-module _ (a b : TemplateBook) (r : ℕ) (o : Option ℕ) (low : r < 8) (kinds : b.kinds ≡ set a.kinds r o) where
-  kind_here : get_or b.kinds r None ≡ o
+module _ (a b : TemplateBook) (r : ℕ) (o : Option ℕ) (low : r < 8) (kinds : b.kinds.by_rule ≡ set a.kinds.by_rule r o) where
+  kind_here : get_or b.kinds.by_rule r None ≡ o
   kind_here = ap (λ (ks : List (Option ℕ)). get_or ks r None) kinds ∙ kind_written a r o low
 
-  kind_other : (q : ℕ) → (q ≡ r → ⊥) → get_or b.kinds q None ≡ get_or a.kinds q None
-  kind_other q d = ap (λ (ks : List (Option ℕ)). get_or ks q None) kinds ∙ get_or-set_other a.kinds r q o None d
+  kind_other : (q : ℕ) → (q ≡ r → ⊥) → get_or b.kinds.by_rule q None ≡ get_or a.kinds.by_rule q None
+  kind_other q d = ap (λ (ks : List (Option ℕ)). get_or ks q None) kinds ∙ get_or-set_other a.kinds.by_rule r q o None d
 
-owner_none : (b : TemplateBook) (p : ℕ) → owned b.kinds p ≡ false → (meaning b).owner p ≡ None
+owner_none : (b : TemplateBook) (p : ℕ) → owned b.kinds.by_rule p ≡ false → (meaning b).owner p ≡ None
 owner_none b p e = ap (λ (t : Bool). cond t (Some (p / 32)) None) e
 
 -- ---- a template added
 
-module _ (a b : TemplateBook) (r k : ℕ) (t : List ℕ) (low : r < 8) (free : get_or a.kinds r None ≡ None) (short : length t < 32)
-    (kinds : b.kinds ≡ set a.kinds r (Some k))
+module _ (a b : TemplateBook) (r k : ℕ) (t : List ℕ) (low : r < 8) (free : get_or a.kinds.by_rule r None ≡ None) (short : length t < 32)
+    (kinds : b.kinds.by_rule ≡ set a.kinds.by_rule r (Some k))
     (takes : (c p : ℕ) → at b.takes c p ≡ (at a.takes c p || (leb (32 * r) p && takes_at t (p - 32 * r) c)))
     (ends : (p : ℕ) → has b.ends p ≡ (has a.ends p || eqb p (32 * r + length t))) where
-  not_owned : (p : ℕ) → p / 32 ≡ r → owned a.kinds p ≡ false
+  not_owned : (p : ℕ) → p / 32 ≡ r → owned a.kinds.by_rule p ≡ false
   not_owned p e = ap (λ (q : ℕ). in_force a q) e ∙ ap is_some free
 
   put_force : in_force b r ≡ true
@@ -63,7 +63,7 @@ module _ (a b : TemplateBook) (r k : ℕ) (t : List ℕ) (low : r < 8) (free : g
     after = kind_here a b r (Some k) low kinds;
     fresh = λ p e. owner_none a p (not_owned p (owner_from b p r e).1);
     keeps = λ p h. elim (cases_eq (p / 32) r) [
-      | inl e ↦ absurd (both_ways _ (not_owned p e) (and_parts (owned a.kinds p) (eqb (p % 32) 0) (passes (λ p. owned a.kinds p && eqb (p % 32) 0) p h)).0)
+      | inl e ↦ absurd (both_ways _ (not_owned p e) (and_parts (owned a.kinds.by_rule p) (eqb (p % 32) 0) (passes (λ p. owned a.kinds.by_rule p && eqb (p % 32) 0) p h)).0)
       | inr d ↦ start_same r a b add_alike p d ∙ h
     ];
     gains = λ p n h. sym (start_same r a b add_alike p (λ e. both_ways _ n (owner_is b p r ∙ and_from _ _ (ap (λ (q : ℕ). in_force b q) e ∙ put_force) (eq-eqb (p / 32) r e)))) ∙ h;
@@ -95,7 +95,7 @@ module _ (a b : TemplateBook) (r k : ℕ) (t : List ℕ) (low : r < 8) (free : g
       let p = 32 * r + i in
       let here : p / 32 ≡ r = omega arith in
       let place : p % 32 ≡ i = omega arith in
-      has_set_of (λ p. owned b.kinds p && eqb (p % 32) 0) p (omega arith)
+      has_set_of (λ p. owned b.kinds.by_rule p && eqb (p % 32) 0) p (omega arith)
       ∙ ap₂ (λ (x : Bool) (j : ℕ). x && eqb j 0) (ap (λ (q : ℕ). in_force b q) here ∙ put_force) place
 
   first : (s : State) (c : ℕ) → has ((meaning b).next s c) (32 * r) ≡ false
@@ -123,7 +123,7 @@ module _ (a b : TemplateBook) (r k : ℕ) (t : List ℕ) (low : r < 8) (free : g
 
 -- ---- a rule deleted
 
-module _ (a b : TemplateBook) (r : ℕ) (force : in_force a r ≡ true) (kinds : b.kinds ≡ set a.kinds r None)
+module _ (a b : TemplateBook) (r : ℕ) (force : in_force a r ≡ true) (kinds : b.kinds.by_rule ≡ set a.kinds.by_rule r None)
     (takes : (c p : ℕ) → at b.takes c p ≡ (at a.takes c p && not (eqb (p / 32) r)))
     (ends : (p : ℕ) → has b.ends p ≡ (has a.ends p && not (eqb (p / 32) r))) where
   pub delete_alike : Alike r a b
@@ -133,15 +133,15 @@ module _ (a b : TemplateBook) (r : ℕ) (force : in_force a r ≡ true) (kinds :
     ends = λ p d. ends p ∙ ap (λ (x : Bool). has a.ends p && not x) (ne_eqb (p / 32) r d) ∙ and_true (has a.ends p);
   }
 
-  removed_kind : get_or b.kinds r None ≡ None
+  removed_kind : get_or b.kinds.by_rule r None ≡ None
   removed_kind = kind_here a b r None (rule_below a r force) kinds
 
-  removed_owned : (p : ℕ) → p / 32 ≡ r → owned b.kinds p ≡ false
+  removed_owned : (p : ℕ) → p / 32 ≡ r → owned b.kinds.by_rule p ≡ false
   removed_owned p e = ap (λ (q : ℕ). in_force b q) e ∙ ap is_some removed_kind
 
   -- a position of the rule is owned by it
   mine : (p : ℕ) → is ((meaning a).owner p) r ≡ true → p / 32 ≡ r
-  mine p e = eqb-true (p / 32) r (and_parts (owned a.kinds p) (eqb (p / 32) r) (sym (owner_is a p r) ∙ e)).1
+  mine p e = eqb-true (p / 32) r (and_parts (owned a.kinds.by_rule p) (eqb (p / 32) r) (sym (owner_is a p r) ∙ e)).1
 
   pub deleted : Deleted r (meaning a) (meaning b)
   deleted = record {
@@ -149,7 +149,7 @@ module _ (a b : TemplateBook) (r : ℕ) (force : in_force a r ≡ true) (kinds :
     before = force;
     after = removed_kind;
     freed = λ p e. owner_none b p (removed_owned p (owner_from a p r e).1);
-    loses = λ p e. fails_set (λ p. owned b.kinds p && eqb (p % 32) 0) p (and_left _ _ (removed_owned p (mine p e)));
+    loses = λ p e. fails_set (λ p. owned b.kinds.by_rule p && eqb (p % 32) 0) p (and_left _ _ (removed_owned p (mine p e)));
     stays = λ p n. start_same r a b delete_alike p
         (λ e. both_ways _ n (owner_is a p r ∙ and_from _ _ (ap (λ (q : ℕ). in_force a q) e ∙ force) (eq-eqb (p / 32) r e)));
   }

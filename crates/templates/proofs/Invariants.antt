@@ -2,7 +2,7 @@
 use Rattle.std.proofs.Common.{◌≡◌, ℕ, zero, suc, ◌+◌, ◌-◌, ◌*◌, ◌/◌, ◌%◌, ◌<◌, ◌≤◌, Bool, true, false, not, ◌&&◌, ◌||◌, eqb, ltb, leb, ◌⊎◌, List, length, get_or, set, replicate, is_some, Some, None, Option, sym, refl, ap, ◌∙◌, inl, inr, arith, get_or-set_other, get_or-set_same}
 use Rattle.std.proofs.lemmas.Bool.{cases_eq, cases_lt, cases_Bool, both_ways, and_parts, and_from, or_cases, eqb-true, eq-eqb, ne_eqb, leb-true, lt-ltb}
 use Rattle.std.proofs.lemmas.Bool.Decides.{nat_tests}
-use Rattle.states.specs.declared.state.State.{State}
+use Rattle.states.specs.Sets.{State}
 use Rattle.states.specs.Words.{some}
 use Rattle.states.specs.Sets.{has, has_rule, rules_of}
 use Rattle.states.proofs.Members.{has_nothing}
@@ -12,11 +12,6 @@ use Rattle.templates.specs.Tables.{at, or_false, and_true, takes_at_past}
 use Rattle.templates.specs.Laws.{in_force, takes_inside, ends_by}
 
 -- ---- the empty book
-
-pub nones : (n q : ℕ) → get_or {A = Option ℕ} (replicate n None) q None ≡ None
-nones zero q = refl
-nones (suc n) zero = refl
-nones (suc n) (suc q) = nones n q
 
 module _ (none : State) (is : (p : ℕ) → has none p ≡ false) where
   pub takes_none : (n c p : ℕ) → at (replicate n none) c p ≡ false
@@ -33,29 +28,23 @@ module _ (none : State) (is : (p : ℕ) → has none p ≡ false) where
 -- ---- one kind written
 
 module _ (a : TemplateBook) (r : ℕ) (o : Option ℕ) (low : r < 8) where
-  pub kind_written : get_or (set a.kinds r o) r None ≡ o
-  kind_written = let long = a.sizes.0 in get_or-set_same a.kinds r o None (omega arith)
+  pub kind_written : get_or (set a.kinds.by_rule r o) r None ≡ o
+  kind_written = let long = a.kinds.size.0 in get_or-set_same a.kinds.by_rule r o None (omega arith)
 
-  pub kinds_small : ((k : ℕ) → o ≡ Some k → k < 4096) → (q k : ℕ) → get_or (set a.kinds r o) q None ≡ Some k → k < 4096
-  kinds_small small q k e = elim (cases_eq q r) [
-    | inl h ↦ small k (sym kind_written ∙ ap (λ (x : ℕ). get_or (set a.kinds r o) x None) (sym h) ∙ e)
-    | inr d ↦ a.small q k (sym (get_or-set_other a.kinds r q o None d) ∙ e)
-  ]
+  owned_here : (p : ℕ) → p / 32 ≡ r → owned (set a.kinds.by_rule r o) p ≡ is_some o
+  owned_here p e = ap (λ (q : ℕ). is_some (get_or (set a.kinds.by_rule r o) q None)) e ∙ ap is_some kind_written
 
-  owned_here : (p : ℕ) → p / 32 ≡ r → owned (set a.kinds r o) p ≡ is_some o
-  owned_here p e = ap (λ (q : ℕ). is_some (get_or (set a.kinds r o) q None)) e ∙ ap is_some kind_written
-
-  owned_other : (p : ℕ) → (p / 32 ≡ r → ⊥) → owned (set a.kinds r o) p ≡ owned a.kinds p
-  owned_other p d = ap is_some (get_or-set_other a.kinds r (p / 32) o None d)
+  owned_other : (p : ℕ) → (p / 32 ≡ r → ⊥) → owned (set a.kinds.by_rule r o) p ≡ owned a.kinds.by_rule p
+  owned_other p d = ap is_some (get_or-set_other a.kinds.by_rule r (p / 32) o None d)
 
 -- ---- a template put in
 
 module _ (a : TemplateBook) (r k : ℕ) (low : r < 8) where
   abbrev after_put : List (Option ℕ)
-  after_put = set a.kinds r (Some k)
+  after_put = set a.kinds.by_rule r (Some k)
 
   -- what was owned stays owned
-  pub put_owned : (p : ℕ) → owned a.kinds p ≡ true → owned after_put p ≡ true
+  pub put_owned : (p : ℕ) → owned a.kinds.by_rule p ≡ true → owned after_put p ≡ true
   put_owned p h = elim (cases_eq (p / 32) r) [
     | inl e ↦ owned_here a r (Some k) low p e
     | inr d ↦ owned_other a r (Some k) low p d ∙ h
@@ -71,7 +60,7 @@ module _ (a : TemplateBook) (r k : ℕ) (low : r < 8) where
       or_true true = refl
       or_true false = refl
 
-  pub put_starts : get_or a.kinds r None ≡ None → (p : ℕ) → (has a.start p || eqb p (32 * r)) ≡ (owned after_put p && eqb (p % 32) 0)
+  pub put_starts : get_or a.kinds.by_rule r None ≡ None → (p : ℕ) → (has a.start p || eqb p (32 * r)) ≡ (owned after_put p && eqb (p % 32) 0)
   put_starts free p = elim (cases_eq (p / 32) r) [
     | inl e ↦ ap (λ (x : Bool). x || eqb p (32 * r)) (a.starts p ∙ ap (λ (x : Bool). x && eqb (p % 32) 0) (ap (in_force a) e ∙ ap is_some free))
         ∙ first e ∙ ap (λ (x : Bool). x && eqb (p % 32) 0) (sym (owned_here a r (Some k) low p e))
@@ -107,12 +96,12 @@ module _ (a : TemplateBook) (r k : ℕ) (low : r < 8) where
 
 module _ (a : TemplateBook) (r : ℕ) (low : r < 8) where
   abbrev after_removal : List (Option ℕ)
-  after_removal = set a.kinds r None
+  after_removal = set a.kinds.by_rule r None
 
-  pub removal_owned : (p : ℕ) → (owned a.kinds p && not (eqb (p / 32) r)) ≡ owned after_removal p
+  pub removal_owned : (p : ℕ) → (owned a.kinds.by_rule p && not (eqb (p / 32) r)) ≡ owned after_removal p
   removal_owned p = elim (cases_eq (p / 32) r) [
-    | inl e ↦ ap (λ (x : Bool). owned a.kinds p && not x) (eq-eqb (p / 32) r e) ∙ and_false (owned a.kinds p) ∙ sym (owned_here a r None low p e)
-    | inr d ↦ ap (λ (x : Bool). owned a.kinds p && not x) (ne_eqb (p / 32) r d) ∙ and_true (owned a.kinds p) ∙ sym (owned_other a r None low p d)
+    | inl e ↦ ap (λ (x : Bool). owned a.kinds.by_rule p && not x) (eq-eqb (p / 32) r e) ∙ and_false (owned a.kinds.by_rule p) ∙ sym (owned_here a r None low p e)
+    | inr d ↦ ap (λ (x : Bool). owned a.kinds.by_rule p && not x) (ne_eqb (p / 32) r d) ∙ and_true (owned a.kinds.by_rule p) ∙ sym (owned_other a r None low p d)
   ]
     where
       and_false : (x : Bool) → (x && false) ≡ false
@@ -124,7 +113,7 @@ module _ (a : TemplateBook) (r : ℕ) (low : r < 8) where
 
   pub removal_starts : (p : ℕ) → (has a.start p && not (eqb (p / 32) r)) ≡ (owned after_removal p && eqb (p % 32) 0)
   removal_starts p =
-      ap (λ (x : Bool). x && not (eqb (p / 32) r)) (a.starts p) ∙ swap (owned a.kinds p) (eqb (p % 32) 0) (not (eqb (p / 32) r))
+      ap (λ (x : Bool). x && not (eqb (p / 32) r)) (a.starts p) ∙ swap (owned a.kinds.by_rule p) (eqb (p % 32) 0) (not (eqb (p / 32) r))
       ∙ ap (λ (x : Bool). x && eqb (p % 32) 0) (removal_owned p)
     where
       swap : (x y z : Bool) → ((x && y) && z) ≡ ((x && z) && y)

@@ -3,8 +3,8 @@ use Rattle.std.proofs.Common.{◌≡◌, ℕ, zero, suc, ◌+◌, ◌/◌, ◌<�
 use Rattle.std.proofs.lemmas.List.{get_or_default}
 use Rattle.std.proofs.lemmas.Bool.{and_parts, and_from, eqb-true, eq-eqb, lt-ltb}
 use Rattle.std.proofs.lemmas.Bool.Decides.{same_from_decides}
-use Rattle.states.specs.declared.state.State.{State}
-use Rattle.states.specs.declared.rules.Rules.{Rules}
+use Rattle.states.specs.Sets.{State}
+use Rattle.states.specs.Sets.{Rules}
 use Rattle.states.specs.Words.{Gathers}
 use Rattle.states.specs.Sets.{has, has_rule}
 use Rattle.states.proofs.Members.{is_set_of, same_rules}
@@ -18,7 +18,7 @@ module _ (b : TemplateBook) (s met out : State) (c : ℕ) (d : State) (byte : c 
   at_place : (q : ℕ) → q < 256 → has out q ≡ leads b.takes s c q
   at_place zero l = first
   at_place (suc p) l =
-      let long = b.sizes.1 in
+      let long = b.size in
       let within : c < length b.takes = omega arith in
       ap (has out) (sym (add-one p)) ∙ others p ∙ ap (λ (x : Bool). x && has met p) (lt-ltb p 255 (omega arith)) ∙ meets p
       ∙ ap (λ (t : State). has s p && has t p) (get_or_default b.takes c d _ within)

@@ -3,7 +3,7 @@ use Rattle.std.specs.Prelude.{◌≡◌, ℕ, zero, suc, ◌/◌, ◌%◌, ◌<�
 use Rattle.std.proofs.Common.{sym, ap, ◌∙◌, inl, inr, arith}
 use Rattle.std.proofs.lemmas.List.{get_or_past}
 use Rattle.std.proofs.lemmas.Bool.{cases_lt, cases_Bool, both_ways, and_parts, and_from, and_right, ltb-true, eqb-true, eq-eqb}
-use Rattle.states.specs.declared.state.State.{State}
+use Rattle.states.specs.Sets.{State}
 use Rattle.states.specs.Words.{some}
 use Rattle.states.specs.Sets.{has, has_rule, set_of, rules_of}
 use Rattle.states.proofs.Members.{has_set_of, has_above, has_rule_rules_of, member_below, some_member, rules_above}
@@ -13,10 +13,10 @@ use Rattle.templates.specs.Templates.{owned, leads, template_meaning}
 use Rattle.templates.specs.Tables.{at}
 
 abbrev pub meaning : TemplateBook → Meaning
-meaning b = template_meaning b.kinds b.takes b.ends
+meaning b = template_meaning b.kinds.by_rule b.takes b.ends
 
 abbrev pub in_force : TemplateBook → ℕ → Bool
-in_force b r = is_some (slice_index_or b.kinds r None)
+in_force b r = is_some (slice_index_or b.kinds.by_rule r None)
 
 -- ---- states made by a test, at any position
 
@@ -36,22 +36,22 @@ module _ (f : ℕ → Bool) (p : ℕ) where
 -- ---- owners
 
 module _ (b : TemplateBook) (p : ℕ) where
-  pub owner_is : (r : ℕ) → is ((meaning b).owner p) r ≡ (owned b.kinds p && p / 32 == r)
-  owner_is r = of_test (owned b.kinds p)
+  pub owner_is : (r : ℕ) → is ((meaning b).owner p) r ≡ (owned b.kinds.by_rule p && p / 32 == r)
+  owner_is r = of_test (owned b.kinds.by_rule p)
     where
       of_test : (t : Bool) → is (cond t (Some (p / 32)) None) r ≡ (t && p / 32 == r)
       of_test true = refl
       of_test false = refl
 
-  pub owner_from : (r : ℕ) → (meaning b).owner p ≡ Some r → (owned b.kinds p ≡ true) × (p / 32 ≡ r)
-  owner_from r = of_test (owned b.kinds p)
+  pub owner_from : (r : ℕ) → (meaning b).owner p ≡ Some r → (owned b.kinds.by_rule p ≡ true) × (p / 32 ≡ r)
+  owner_from r = of_test (owned b.kinds.by_rule p)
     where
       of_test : (t : Bool) → cond t (Some (p / 32)) None ≡ Some r → (t ≡ true) × (p / 32 ≡ r)
       of_test true e = (refl, cc)
       of_test false e = let z : ◌≡◌ {A = ℕ} 0 1 = cc in absurd (omega arith)
 
-  pub live_is : is_some ((meaning b).owner p) ≡ owned b.kinds p
-  live_is = of_test (owned b.kinds p)
+  pub live_is : is_some ((meaning b).owner p) ≡ owned b.kinds.by_rule p
+  live_is = of_test (owned b.kinds.by_rule p)
     where
       of_test : (t : Bool) → is_some {T = ℕ} (cond t (Some (p / 32)) None) ≡ t
       of_test true = refl
@@ -60,9 +60,9 @@ module _ (b : TemplateBook) (p : ℕ) where
 pub rule_below : (b : TemplateBook) (r : ℕ) → in_force b r ≡ true → r < 8
 rule_below b r e = elim (cases_lt r 8) [
   | inl l ↦ l
-  | inr l ↦ (let long = b.sizes.0 in
-      let out : length b.kinds ≤ r = omega arith in
-      absurd (both_ways (in_force b r) (ap is_some (get_or_past b.kinds r None out)) e))
+  | inr l ↦ (let long = b.kinds.size.0 in
+      let out : length b.kinds.by_rule ≤ r = omega arith in
+      absurd (both_ways (in_force b r) (ap is_some (get_or_past b.kinds.by_rule r None out)) e))
 ]
 
 -- s holds a position of rule r
@@ -73,9 +73,9 @@ touched m r s = some_member s (λ p. is (m.owner p) r)
 -- ---- steps
 
 -- a position that takes a code is not the last of its rule
-pub takes_inside : (b : TemplateBook) (c p : ℕ) → at b.takes c p ≡ true → (owned b.kinds p ≡ true) × (p % 32 < 31)
+pub takes_inside : (b : TemplateBook) (c p : ℕ) → at b.takes c p ≡ true → (owned b.kinds.by_rule p ≡ true) × (p % 32 < 31)
 takes_inside b c p h =
-    let w = and_parts (owned b.kinds p) (nat_lt (p % 32) 31) (b.taking c p h) in
+    let w = and_parts (owned b.kinds.by_rule p) (nat_lt (p % 32) 31) (b.taking c p h) in
     (w.0, ltb-true (p % 32) 31 w.1)
 
 module _ (b : TemplateBook) (s : State) (c : ℕ) where
@@ -123,7 +123,7 @@ ended_by b s r = ends_by b.ends s r
 
 module _ (b : TemplateBook) where
   starts : (p : ℕ) → has (meaning b).start p ≡ true → Live (meaning b) p
-  starts p h = live_is b p ∙ (and_parts (owned b.kinds p) (p % 32 == 0) (passes (λ p. owned b.kinds p && p % 32 == 0) p h)).0
+  starts p h = live_is b p ∙ (and_parts (owned b.kinds.by_rule p) (p % 32 == 0) (passes (λ p. owned b.kinds.by_rule p && p % 32 == 0) p h)).0
 
   -- a step stays with its rule
   same_rule : (c p : ℕ) → at b.takes c p ≡ true → suc p / 32 ≡ p / 32
@@ -138,7 +138,7 @@ module _ (b : TemplateBook) where
   apart r s c e =
       let t = (touched (meaning b) r ((meaning b).next s c)).0 e in
       let w = next_from b s c t.0 t.1 in
-      let mine = eqb-true (t.0 / 32) r (and_parts (owned b.kinds t.0) (t.0 / 32 == r) (sym (owner_is b t.0 r) ∙ t.2)).1 in
+      let mine = eqb-true (t.0 / 32) r (and_parts (owned b.kinds.by_rule t.0) (t.0 / 32 == r) (sym (owner_is b t.0 r) ∙ t.2)).1 in
       let here : w.0 / 32 ≡ r = sym (same_rule c w.0 w.3) ∙ sym (ap (λ (x : ℕ). x / 32) w.1) ∙ mine in
       (touched (meaning b) r s).1 (w.0, w.2, owner_is b w.0 r ∙ and_from _ _ (takes_inside b c w.0 w.3).0 (eq-eqb (w.0 / 32) r here))
 
@@ -154,7 +154,7 @@ fails false y h e = refl
 
 pub template_lawful : (b : TemplateBook) → Lawful (meaning b)
 template_lawful b = record {
-  rules = λ r k e. let l = rule_below b r (ap is_some e) in (omega arith, b.small r k e);
+  rules = λ r k e. let l = rule_below b r (ap is_some e) in (omega arith, b.kinds.small r k e);
   owners = λ p r e. let w = owner_from b p r e in
       let l = rule_below b (p / 32) w.0 in
       (omega arith, ap (in_force b) (sym w.1) ∙ w.0);

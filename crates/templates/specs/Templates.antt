@@ -1,12 +1,13 @@
 -- Templates, the texts that fit them, and the template book as positions and states.
-use Rattle.std.specs.Prelude.{◌≡◌, ℕ, zero, suc, ◌+◌, ◌*◌, ◌/◌, ◌%◌, ◌<◌, Bool, true, false, cond, not, ◌&&◌, ◌↔◌, List, [], ◌∷◌, length, is_some, Some, None, Option, ◌==◌, ◌≢◌, nat_le, slice_index_or}
-use Rattle.states.specs.declared.state.State.{State}
+use Rattle.std.specs.Prelude.{◌≡◌, ℕ, zero, suc, ◌+◌, ◌*◌, ◌/◌, ◌%◌, ◌<◌, Bool, true, false, cond, ◌&&◌, ◌↔◌, List, [], ◌∷◌, ◌++◌, length, is_some, Some, None, Option, ◌==◌, ◌≢◌, nat_le, slice_index_or}
+use Rattle.states.specs.Sets.{State}
 use Rattle.states.specs.Words.{some}
 use Rattle.states.specs.Sets.{has, has_rule, nothing, set_of, rules_of}
 use Rattle.books.specs.Meaning.{Meaning, Model, counting, is}
+use Rattle.books.specs.Changes.{first_no, new_rule}
 use Rattle.books.specs.Texts.{meets}
 use Rattle.books.specs.declared.faults.BookFault.{BookFault}
-use Rattle.books.specs.declared.faults.BookFault.TheVariants.{Number, Kind, Taken, Length}
+use Rattle.books.specs.declared.faults.BookFault.TheVariants.{Length}
 
 -- ---- the texts, as lists of codes
 
@@ -79,17 +80,7 @@ pub record TemplateDeleted (r : ℕ) (m n : Meaning) : Type 0 where
   pub texts : (text : List ℕ) → has_rule (meets n text) r ≡ false
   pub others : OthersStay r m n
 
--- ---- why adding is refused
-
--- questions with the fault that a no gives: the fault of the first that is answered no
-abbrev pub first_no : List (Bool × BookFault) → Option BookFault
-first_no [] = None
-first_no (q ∷ qs) = cond q.0 (first_no qs) (Some q.1)
+-- ---- why adding is refused: by what every book asks first of a new rule, and for a template not of 1 to 31 bytes
 
 abbrev pub template_refusal : Meaning → ℕ → ℕ → List ℕ → Option BookFault
-template_refusal m r k bytes = first_no (
-    (nat_le r 7, Number)
-    ∷ (nat_le k 4095, Kind)
-    ∷ (not (is_some (m.kind r)), Taken)
-    ∷ (nat_le 1 (length bytes) && nat_le (length bytes) 31, Length)
-    ∷ [])
+template_refusal m r k bytes = first_no (new_rule 8 (m.kind r) r k ++ (nat_le 1 (length bytes) && nat_le (length bytes) 31, Length) ∷ [])

@@ -1,8 +1,9 @@
 // The template book itself, apart from its operations, whose contracts name it.
-ghost use Rattle.std.specs.Prelude.{◌≡◌, ℕ, ◌%◌, ◌<◌, true, ◌&&◌, length, Some, None, ◌==◌, nat_lt, slice_index_or};
+ghost use Rattle.std.specs.Prelude.{◌≡◌, ℕ, ◌%◌, true, ◌&&◌, length, ◌==◌, nat_lt, slice_index_or};
 ghost use Rattle.states.specs.Sets.{has, nothing};
 ghost use Rattle.templates.specs.Templates.{owned};
 
+use books::Kinds;
 use states::State;
 
 pub(crate) mod changing;
@@ -11,14 +12,13 @@ pub(crate) mod reading;
 mod rules;
 
 // Rule numbers lie below this.
-pub(crate) const RULES: u32 = 8;
+pub(crate) const RULES: usize = 8;
 
 // Up to eight rules, each a template of 1 to 31 bytes: '#' stands for a digit, '?' for any byte, another byte for itself.
 // Rule r in force owns the 32 positions from 32 × r, and position 32 × r + i says that i bytes are matched.
 #[derive(Drop)]
 pub struct TemplateBook {
-    // by rule: its kind, if it is in force
-    kinds: [Option<u16>; 8],
+    kinds: Kinds<RULES>,
     // by code: the positions that take it
     takes: [State; 256],
     live: State,
@@ -26,11 +26,10 @@ pub struct TemplateBook {
     // the position behind the last byte of each template
     ends: State,
     asked: u32,
-    ghost sizes: { (length kinds ≡ 8) × (length takes ≡ 256) },
-    ghost small: { (r k : ℕ) → slice_index_or kinds r None ≡ Some k → k < 4096 },
-    ghost lives: { (p : ℕ) → has live p ≡ owned kinds p },
-    ghost starts: { (p : ℕ) → has start p ≡ (owned kinds p && p % 32 == 0) },
-    ghost ending: { (p : ℕ) → has ends p ≡ true → owned kinds p ≡ true },
+    ghost size: { length takes ≡ 256 },
+    ghost lives: { (p : ℕ) → has live p ≡ owned kinds.by_rule p },
+    ghost starts: { (p : ℕ) → has start p ≡ (owned kinds.by_rule p && p % 32 == 0) },
+    ghost ending: { (p : ℕ) → has ends p ≡ true → owned kinds.by_rule p ≡ true },
     // what takes a code is not the last position of its rule
-    ghost taking: { (c p : ℕ) → has (slice_index_or takes c nothing) p ≡ true → (owned kinds p && nat_lt (p % 32) 31) ≡ true },
+    ghost taking: { (c p : ℕ) → has (slice_index_or takes c nothing) p ≡ true → (owned kinds.by_rule p && nat_lt (p % 32) 31) ≡ true },
 }

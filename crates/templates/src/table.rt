@@ -3,19 +3,21 @@ ghost use Rattle.std.specs.Prelude.{◌≡◌, ℕ, ◌+◌, ◌-◌, ◌/◌, �
 ghost use Rattle.states.specs.Sets.{has, nothing};
 ghost use Rattle.templates.specs.Templates.{takes_byte, takes_at};
 
+use crate::book::RULES;
+use books::Rule;
 use states::State;
+use std::ops::Range;
 
 // How many positions a rule owns.
 pub(crate) const SPAN: u8 = 32;
 
 // The positions of a rule.
-pub(crate) fn block(rule: u8) -> State
-    requires { rule < 8 }
-    ensures { (p : ℕ) → has result p ≡ (p / 32 == rule) }
+pub(crate) fn block(rule: Rule<RULES>) -> State
+    ensures { (p : ℕ) → has result p ≡ (p / 32 == rule.number) }
 {
     let mut out = State::empty();
     for i in 0..SPAN {
-        out = out.with(SPAN * rule + i);
+        out = out.with(SPAN * rule.number + i);
     }
     out
 }
@@ -44,38 +46,25 @@ pub(crate) fn clear(takes: &mut [State; 256], positions: State)
     }
 }
 
-// The codes from `low` on, below `end`.
-#[derive(Clone, Copy)]
-struct Codes {
-    low: usize,
-    end: usize,
-    ghost ordered: { (low ≤ end) × (end ≤ 256) },
-}
-
 // The codes that a byte of a template takes.
-fn codes_of(byte: u8) -> Codes
-    ensures { (c : ℕ) → takes_byte byte c ≡ (nat_le result.low c && nat_lt c result.end) }
+fn codes_of(byte: u8) -> Range<usize>
+    ensures codes { (c : ℕ) → takes_byte byte c ≡ (nat_le result.start c && nat_lt c result.end) }
+    ensures ordered { (result.start ≤ result.end) × (result.end ≤ 256) }
 {
-    let own = byte as usize;
     match byte {
-        b'#' => Codes {
-            low: b'0' as usize,
-            end: b'9' as usize + 1,
-        },
-        b'?' => Codes { low: 0, end: 256 },
-        _ => Codes {
-            low: own,
-            end: own + 1,
-        },
+        b'#' => b'0' as usize..b'9' as usize + 1,
+        b'?' => 0..256,
+        _ => byte as usize..byte as usize + 1,
     }
 }
 
 // Lets a position take the codes.
-fn mark(takes: &mut [State; 256], codes: Codes, at: u8)
+fn mark(takes: &mut [State; 256], codes: Range<usize>, at: u8)
+    requires { (codes.start ≤ codes.end) × (codes.end ≤ 256) }
     ensures { (c p : ℕ) → has (slice_index_or takes.new c nothing) p
-        ≡ (has (slice_index_or takes.old c nothing) p || (p == at && (nat_le codes.low c && nat_lt c codes.end))) }
+        ≡ (has (slice_index_or takes.old c nothing) p || (p == at && (nat_le codes.start c && nat_lt c codes.end))) }
 {
-    for code in codes.low..codes.end {
+    for code in codes.start..codes.end {
         takes[code] = takes[code].with(at);
     }
 }

@@ -11,9 +11,9 @@ use books::{Book, BookFault, ChangingBook};
 use symbols::Symbol;
 
 impl<S: Symbol> ChangingBook for ExpressionBook<S> {
-    ghost refusal = { expression_refusal S.Symbol.last };
+    ghost refusal = { expression_refusal S.Symbol.LAST };
 
-    ghost grows = { λ r k bytes. ExpressionAdded S.Symbol.last r bytes };
+    ghost grows = { λ r k bytes. ExpressionAdded S.Symbol.LAST r bytes };
 
     ghost shrinks = { ExpressionDeleted };
 
@@ -22,15 +22,15 @@ impl<S: Symbol> ChangingBook for ExpressionBook<S> {
     // more than 1,024, a command at fault, or fewer positions free than the expression has symbols, and one for its end.
     // Reads the bytes twice, and touches a row for each last position of what a command links.
     fn add(&mut self, rule: u32, kind: u32, bytes: &[u8]) -> Result<(), BookFault>
-        ensures answer { result_err result ≡ expression_refusal S.Symbol.last (book_meaning self.old) rule kind bytes.now }
+        ensures answer { result_err result ≡ expression_refusal S.Symbol.LAST (book_meaning self.old) rule kind bytes.now }
         ensures change { MatchResult result
             (λ _. Changed (Added rule kind) (book_model self.old) (book_model self.new))
             (λ _. self.new ≡ self.old) }
-        ensures grown { OnOk result (ExpressionAdded S.Symbol.last rule bytes.now
+        ensures grown { OnOk result (ExpressionAdded S.Symbol.LAST rule bytes.now
             (book_meaning self.old) (book_meaning self.new)) }
         ensures denoting { Denoting (book_meaning self.old) → Denoting (book_meaning self.new) }
     {
-        self.table.add(rule, kind, bytes, S::last_code())
+        self.table.add(rule, kind, bytes, S::LAST)
     }
 
     // Takes `rule` out of force and frees its positions: no text meets it then, and other rules read as before. Refused where it is

@@ -34,6 +34,6 @@ impl<S: Symbol> Book for ExpressionBook<S> {
     }
 
     fn kind(&self, rule: u32) -> Option<u16> {
-        self.table.kind(rule)
+        self.table.kinds.get(rule)
     }
 }

@@ -1,5 +1,5 @@
 // Building a rule from its commands, in place. Nothing here can fail: the run was checked, and there is room.
-ghost use Rattle.std.specs.Prelude.{◌≡◌, ◌+◌, ◌<◌, true, List, [], ◌∷◌, is_some, None, Ok};
+ghost use Rattle.std.specs.Prelude.{◌≡◌, ◌+◌, true, List, [], ◌∷◌, is_some, None, Ok};
 ghost use Rattle.states.specs.Sets.{size};
 ghost use Rattle.expressions.specs.Expression.{Plain, symbols};
 ghost use Rattle.expressions.specs.Commands.{adds, applied, read_all};
@@ -9,21 +9,20 @@ ghost use Rattle.expression_book.specs.Tables.{table_meaning};
 
 use crate::part::Part;
 use crate::table::Table;
-use crate::waiting::Waiting;
-use expressions::{Command, step};
+use arrayvec::ArrayVec;
+use books::Rule;
+use expressions::{CodeRange, Command, MOST, step};
 
 impl Table {
     // Puts the rule that the bytes spell in force. Its end is one more symbol, behind all others, that takes no code.
-    pub(crate) fn put(&mut self, rule: u8, kind: u16, bytes: &[u8], last: u16)
-        requires number { rule < 64 }
-        requires small { kind < 4096 }
-        requires free { (table_meaning self.old).kind rule ≡ None }
+    pub(crate) fn put(&mut self, rule: Rule<64>, bytes: &[u8], last: u16)
+        requires free { (table_meaning self.old).kind rule.number ≡ None }
         requires roomy { Roomy last bytes.now self.old }
-        ensures { (e : Plain) → read_all last bytes.now ≡ Ok e → Puts rule kind e self.old self.new }
+        ensures { (e : Plain) → read_all last bytes.now ≡ Ok e → Puts rule.number rule.kind e self.old self.new }
     {
-        self.kinds[rule as usize] = Some(kind);
-        let part = self.build(rule, bytes, last);
-        let end = Part::symbol(self.give(rule, 1, 0));
+        self.kinds.put(rule);
+        let part = self.build(rule.number, bytes, last);
+        let end = Part::symbol(self.give(rule.number, CodeRange::none()));
         self.link(part.last, end.first);
         self.start = self.start.union(part.join(end).first);
         self.ends = self.ends.union(end.first);
@@ -36,22 +35,19 @@ impl Table {
         ensures { (e : Plain) → read_all last bytes.now ≡ Ok e
             → Building self.old rule (e ∷ []) (result ∷ []) self.new × (size self.new.live ≡ size self.old.live + symbols e) }
     {
-        let mut waiting = Waiting::new();
+        let mut waiting = ArrayVec::new();
         let mut rest = bytes;
         while let [letter, behind @ ..] = rest {
-            match step(*letter, behind, last, waiting.len()) {
-                Ok((command, tail)) => {
-                    self.obey(&mut waiting, rule, command);
-                    rest = tail;
-                }
-                Err(_) => unreachable(),
-            }
+            // the run was checked before anything was changed, so each step is taken
+            let (command, tail) = step(*letter, behind, last, waiting.len()).unwrap();
+            self.obey(&mut waiting, rule, command);
+            rest = tail;
         }
-        waiting.pop()
+        waiting.pop().unwrap()
     }
 
     // Obeys one command of the rule.
-    fn obey(&mut self, waiting: &mut Waiting, rule: u8, command: Command)
+    fn obey(&mut self, waiting: &mut ArrayVec<Part, MOST>, rule: u8, command: Command)
         requires { Ready rule command (stacked waiting.old) self.old }
         ensures count { size self.new.live ≡ size self.old.live + adds command }
         ensures built { (a : Table) (W : List Plain) → Building a rule W (stacked waiting.old) self.old
@@ -59,33 +55,33 @@ impl Table {
     {
         match command {
             Command::Empty => waiting.push(Part::empty()),
-            Command::Symbol(low, high) => {
-                let at = self.give(rule, low, high);
+            Command::Symbol(codes) => {
+                let at = self.give(rule, codes);
                 waiting.push(Part::symbol(at));
             }
             Command::Join => {
-                let b = waiting.pop();
-                let a = waiting.pop();
+                let b = waiting.pop().unwrap();
+                let a = waiting.pop().unwrap();
                 self.link(a.last, b.first);
                 waiting.push(a.join(b));
             }
             Command::Either => {
-                let b = waiting.pop();
-                let a = waiting.pop();
+                let b = waiting.pop().unwrap();
+                let a = waiting.pop().unwrap();
                 waiting.push(a.either(b));
             }
             Command::Star => {
-                let a = waiting.pop();
+                let a = waiting.pop().unwrap();
                 self.link(a.last, a.first);
                 waiting.push(a.optional());
             }
             Command::Plus => {
-                let a = waiting.pop();
+                let a = waiting.pop().unwrap();
                 self.link(a.last, a.first);
                 waiting.push(a);
             }
             Command::Optional => {
-                let part = waiting.pop();
+                let part = waiting.pop().unwrap();
                 waiting.push(part.optional());
             }
         }

@@ -1,5 +1,5 @@
 // Adding rules to the table and deleting them.
-ghost use Rattle.std.specs.Prelude.{◌≡◌, ℕ, false, List, MatchResult, OnOk};
+ghost use Rattle.std.specs.Prelude.{◌≡◌, ℕ, false, List, MatchResult, IfOk, OnOk};
 ghost use Rattle.std.specs.Result.{result_err};
 ghost use Rattle.states.specs.Sets.{has_rule};
 ghost use Rattle.books.specs.Changes.{Added, Deleted, Changed, delete_refusal};
@@ -9,12 +9,8 @@ ghost use Rattle.expression_book.specs.Tables.{table_meaning, table_model};
 ghost use Rattle.expression_book.specs.Promises.{Adopts, OthersStay};
 
 use crate::table::Table;
-use crate::table::reading::RULES;
-use books::BookFault;
+use books::{BookFault, Rule};
 use expressions::check;
-
-// Kinds lie below this.
-const KINDS: u32 = 4096;
 
 // The length of the longest rule.
 const LONGEST: usize = 1024;
@@ -38,8 +34,8 @@ impl Table {
         ensures adopts { OnOk result (Adopts last rule bytes.now (table_meaning self.old) (table_meaning self.new)) }
         ensures others { OnOk result (OthersStay rule (table_meaning self.old) (table_meaning self.new)) }
     {
-        self.ask(rule, kind, bytes, last)?;
-        self.put(rule as u8, kind as u16, bytes, last);
+        let rule = self.ask(rule, kind, bytes, last)?;
+        self.put(rule, bytes, last);
         Ok(())
     }
 
@@ -52,26 +48,17 @@ impl Table {
         ensures texts { OnOk result ((text : List ℕ) → has_rule (meets (table_meaning self.new) text) rule ≡ false) }
         ensures others { OnOk result (OthersStay rule (table_meaning self.old) (table_meaning self.new)) }
     {
-        if self.kind(rule).is_none() {
-            return Err(BookFault::Absent);
-        }
-        self.remove(rule as u8);
+        let rule = self.kinds.in_force(rule)?;
+        self.remove(rule);
         Ok(())
     }
 
-    // Asks all questions about an adding, in their order. Changes nothing.
-    fn ask(&self, rule: u32, kind: u32, bytes: &[u8], last: u16) -> Result<(), BookFault>
-        ensures { result_err result ≡ refusal last (table_meaning self.now) rule kind bytes.now }
+    // Asks all questions about an adding, in their order, and answers the rule. Changes nothing.
+    fn ask(&self, rule: u32, kind: u32, bytes: &[u8], last: u16) -> Result<Rule<64>, BookFault>
+        ensures answer { result_err result ≡ refusal last (table_meaning self.now) rule kind bytes.now }
+        ensures rule { IfOk result (λ it. (it.number ≡ rule) × (it.kind ≡ kind)) }
     {
-        if rule >= RULES {
-            return Err(BookFault::Number);
-        }
-        if kind >= KINDS {
-            return Err(BookFault::Kind);
-        }
-        if self.kinds[rule as usize].is_some() {
-            return Err(BookFault::Taken);
-        }
+        let rule = self.kinds.new_rule(rule, kind)?;
         if bytes.len() > LONGEST {
             return Err(BookFault::Length);
         }
@@ -79,6 +66,6 @@ impl Table {
         if symbols >= POSITIONS - self.live.count() as usize {
             return Err(BookFault::Full);
         }
-        Ok(())
+        Ok(rule)
     }
 }

@@ -8,6 +8,7 @@ ghost use Rattle.expression_book.specs.Building.{Gives, Links};
 
 use crate::row::Row;
 use crate::table::Table;
+use expressions::CodeRange;
 use states::State;
 
 impl Table {
@@ -21,18 +22,18 @@ impl Table {
         link(&mut self.rows, last, first);
     }
 
-    // Gives the rule the lowest free position, for a symbol with these codes.
-    pub(crate) fn give(&mut self, rule: u8, low: u16, high: u16) -> u8
+    // Gives the rule the lowest free position, for a symbol with these codes. That the rule is in force is asked in a clause: a type
+    // that says so would hold the table by `&mut` beside a ghost field, for which Rattle makes no proof.
+    pub(crate) fn give(&mut self, rule: u8, codes: CodeRange) -> u8
         requires force { is_some ((table_meaning self.old).kind rule) ≡ true }
         requires free { size self.old.live < 256 }
-        ensures { Gives rule low high result self.old self.new }
+        ensures { Gives rule codes result self.old self.new }
     {
         let at = lowest_free(self.live);
         self.live = self.live.with(at);
         self.rows[at as usize] = Row {
             rule,
-            low,
-            high,
+            codes,
             follow: State::empty(),
         };
         at
@@ -53,10 +54,8 @@ fn link(rows: &mut [Row; 256], last: State, first: State)
     ensures linked { (p : ℕ) → has last p ≡ true → Gains first (row rows.old p) (row rows.new p) }
     ensures kept { (p : ℕ) → has last p ≡ false → row rows.new p ≡ row rows.old p }
 {
-    let mut rest = last;
-    while let Some(p) = rest.pop_lowest() {
-        let mut row = rows[p as usize];
+    for p in last.members() {
+        let row = &mut rows[p as usize];
         row.follow = row.follow.union(first);
-        rows[p as usize] = row;
     }
 }

@@ -6,6 +6,7 @@ ghost use Rattle.expression_book.specs.Tables.{table_meaning};
 
 use crate::row::Row;
 use crate::table::Table;
+use books::Kinds;
 use states::State;
 
 impl Table {
@@ -16,7 +17,7 @@ impl Table {
     {
         let none = State::empty();
         Table {
-            kinds: [None; 64],
+            kinds: Kinds::new(),
             rows: [Row::blank(); 256],
             live: none,
             start: none,

@@ -1,21 +1,21 @@
 // Taking a rule out of the table.
-ghost use Rattle.std.specs.Prelude.{◌≡◌, ℕ, ◌<◌, true, false, length};
+ghost use Rattle.std.specs.Prelude.{◌≡◌, ℕ, true, false, length};
 ghost use Rattle.states.specs.Sets.{has};
 ghost use Rattle.expression_book.specs.Rows.{blank, row};
 ghost use Rattle.expression_book.specs.Tables.{owns, Removes};
 
 use crate::row::Row;
 use crate::table::Table;
+use books::Rule;
 use states::State;
 
 impl Table {
     // Takes a rule out of force and frees its positions.
-    pub(crate) fn remove(&mut self, rule: u8)
-        requires { rule < 64 }
-        ensures { Removes rule self.old self.new }
+    pub(crate) fn remove(&mut self, rule: Rule<64>)
+        ensures { Removes rule.number self.old self.new }
     {
-        let gone = self.positions(rule);
-        self.kinds[rule as usize] = None;
+        let gone = self.positions(rule.number);
+        self.kinds.remove(rule);
         self.live = self.live.without(gone);
         self.start = self.start.without(gone);
         self.ends = self.ends.without(gone);
@@ -26,9 +26,8 @@ impl Table {
     fn positions(&self, rule: u8) -> State
         ensures { (p : ℕ) → has result p ≡ owns self.now rule p }
     {
-        let mut rest = self.live;
         let mut out = State::empty();
-        while let Some(p) = rest.pop_lowest() {
+        for p in self.live.members() {
             if self.rows[p as usize].rule == rule {
                 out = out.with(p);
             }
@@ -43,22 +42,7 @@ fn clear(rows: &mut [Row; 256], gone: State)
     ensures cleared { (p : ℕ) → has gone p ≡ true → row rows.new p ≡ blank }
     ensures kept { (p : ℕ) → has gone p ≡ false → row rows.new p ≡ row rows.old p }
 {
-    let mut rest = gone;
-    while let Some(p) = rest.pop_lowest() {
+    for p in gone.members() {
         rows[p as usize] = Row::blank();
-    }
-}
-
-impl Row {
-    // The row of a position that no rule owns.
-    pub(crate) fn blank() -> Row
-        ensures { result ≡ blank }
-    {
-        Row {
-            rule: 0,
-            low: 1,
-            high: 0,
-            follow: State::empty(),
-        }
     }
 }

@@ -23,8 +23,7 @@ impl Book for NumberBook {
 
     fn live(&self) -> State {
         State {
-            low: 0b111111,
-            high: 0,
+            words: [0b111111, 0, 0, 0],
         }
     }
 

@@ -1,5 +1,5 @@
 // Adding templates to the book and deleting them.
-ghost use Rattle.std.specs.Prelude.{◌≡◌, ℕ, true, false, ◌↔◌, List, MatchResult, OnOk};
+ghost use Rattle.std.specs.Prelude.{◌≡◌, ℕ, true, false, ◌↔◌, List, IfOk, MatchResult, OnOk};
 ghost use Rattle.std.specs.Result.{result_err};
 ghost use Rattle.states.specs.Sets.{has_rule};
 ghost use Rattle.books.specs.Changes.{Added, Deleted, Changed, delete_refusal};
@@ -8,30 +8,22 @@ ghost use Rattle.templates.specs.Templates.{Fits, OthersStay, Template, Template
 ghost use Rattle.templates.specs.contracts.book.reading.TemplateBookBook.TheImpl.{ghosts as reading};
 
 use crate::book::{RULES, TemplateBook};
-use books::{Book, BookFault, ChangingBook};
-
-// Kinds lie below this.
-const KINDS: u32 = 4096;
+use books::{BookFault, ChangingBook, Rule};
 
 // The length of the longest template.
 const LONGEST: usize = 31;
 
 impl TemplateBook {
-    // Why the book refuses to add a template, if it does.
-    fn fault(&self, rule: u32, kind: u32, bytes: &[u8]) -> Option<BookFault>
-        ensures { result ≡ template_refusal (reading.model self.now).meaning rule kind bytes.now }
+    // The rule to add, if every question about it gets a yes.
+    fn ask(&self, rule: u32, kind: u32, bytes: &[u8]) -> Result<Rule<RULES>, BookFault>
+        ensures answer { result_err result ≡ template_refusal (reading.model self.now).meaning rule kind bytes.now }
+        ensures rule { IfOk result (λ it. (it.number ≡ rule) × (it.kind ≡ kind)) }
     {
-        if rule >= RULES {
-            Some(BookFault::Number)
-        } else if kind >= KINDS {
-            Some(BookFault::Kind)
-        } else if self.kinds[rule as usize].is_some() {
-            Some(BookFault::Taken)
-        } else if bytes.is_empty() || bytes.len() > LONGEST {
-            Some(BookFault::Length)
-        } else {
-            None
+        let new = self.kinds.new_rule(rule, kind)?;
+        if bytes.is_empty() || bytes.len() > LONGEST {
+            return Err(BookFault::Length);
         }
+        Ok(new)
     }
 }
 
@@ -57,10 +49,8 @@ impl ChangingBook for TemplateBook {
         ensures grown { OnOk result (TemplateAdded rule bytes.now
             (reading.model self.old).meaning (reading.model self.new).meaning) }
     {
-        if let Some(fault) = self.fault(rule, kind, bytes) {
-            return Err(fault);
-        }
-        self.put(rule as u8, kind as u16, bytes);
+        let new = self.ask(rule, kind, bytes)?;
+        self.put(new, bytes);
         Ok(())
     }
 
@@ -75,10 +65,8 @@ impl ChangingBook for TemplateBook {
         ensures shrunk { OnOk result (TemplateDeleted rule
             (reading.model self.old).meaning (reading.model self.new).meaning) }
     {
-        if self.kind(rule).is_none() {
-            return Err(BookFault::Absent);
-        }
-        self.remove(rule as u8);
+        let old = self.kinds.in_force(rule)?;
+        self.remove(old);
         Ok(())
     }
 }

@@ -5,7 +5,7 @@ ghost use Rattle.books.specs.Texts.{meets};
 ghost use Rattle.templates.specs.contracts.book.reading.TemplateBookBook.TheImpl.{ghosts as reading};
 
 use crate::book::TemplateBook;
-use books::Noted;
+use books::{Kinds, Noted};
 use states::State;
 
 impl TemplateBook {
@@ -17,7 +17,7 @@ impl TemplateBook {
     {
         let none = State::empty();
         TemplateBook {
-            kinds: [None; 8],
+            kinds: Kinds::new(),
             takes: [none; 256],
             live: none,
             start: none,

@@ -2,7 +2,7 @@
 ghost use Rattle.templates.specs.Templates.{template_model};
 ghost use Rattle.templates.specs.Laws.{template_lawful};
 
-use crate::book::{RULES, TemplateBook};
+use crate::book::TemplateBook;
 use crate::table::SPAN;
 use books::Book;
 use states::{Rules, State};
@@ -11,7 +11,7 @@ use states::{Rules, State};
 impl Book for TemplateBook {
     type Symbol = u8;
 
-    ghost model = { λ b. template_model b.kinds b.takes b.ends b.asked };
+    ghost model = { λ b. template_model b.kinds.by_rule b.takes b.ends b.asked };
 
     ghost lawful = { λ b. template_lawful b };
 
@@ -29,19 +29,14 @@ impl Book for TemplateBook {
     }
 
     fn ended(&self, state: State) -> Rules {
-        let mut rest = state.meet(self.ends);
         let mut out = Rules::empty();
-        while let Some(p) = rest.pop_lowest() {
+        for p in state.meet(self.ends).members() {
             out = out.union(Rules::single(p / SPAN));
         }
         out
     }
 
     fn kind(&self, rule: u32) -> Option<u16> {
-        if rule < RULES {
-            self.kinds[rule as usize]
-        } else {
-            None
-        }
+        self.kinds.get(rule)
     }
 }

@@ -3,25 +3,24 @@ ghost use Rattle.std.specs.Prelude.{◌≡◌, ℕ, ◌+◌, ◌-◌, ◌*◌, �
 ghost use Rattle.states.specs.Sets.{has, nothing};
 ghost use Rattle.templates.specs.Templates.{takes_at};
 
-use crate::book::TemplateBook;
+use crate::book::{RULES, TemplateBook};
 use crate::table::{SPAN, block, clear, place};
+use books::Rule;
 
 impl TemplateBook {
     // Puts a template in force under a number that is free.
-    pub(crate) fn put(&mut self, rule: u8, kind: u16, bytes: &[u8])
-        requires number { rule < 8 }
-        requires small { kind < 4096 }
-        requires free { slice_index_or self.old.kinds rule None ≡ None }
+    pub(crate) fn put(&mut self, rule: Rule<RULES>, bytes: &[u8])
+        requires free { slice_index_or self.old.kinds.by_rule rule.number None ≡ None }
         requires short { length bytes.now < 32 }
-        ensures kinds { self.new.kinds ≡ slice_set self.old.kinds rule (Some kind) }
+        ensures kinds { self.new.kinds.by_rule ≡ slice_set self.old.kinds.by_rule rule.number (Some rule.kind) }
         ensures takes { (c p : ℕ) → has (slice_index_or self.new.takes c nothing) p
-            ≡ (has (slice_index_or self.old.takes c nothing) p || (nat_le (32 * rule) p && takes_at bytes.now (p - 32 * rule) c)) }
+            ≡ (has (slice_index_or self.old.takes c nothing) p || (nat_le (32 * rule.number) p && takes_at bytes.now (p - 32 * rule.number) c)) }
         ensures ends { (p : ℕ) → has self.new.ends p
-            ≡ (has self.old.ends p || p == 32 * rule + length bytes.now) }
+            ≡ (has self.old.ends p || p == 32 * rule.number + length bytes.now) }
         ensures note { self.new.asked ≡ self.old.asked }
     {
-        let first = SPAN * rule;
-        self.kinds[rule as usize] = Some(kind);
+        let first = SPAN * rule.number;
+        self.kinds.put(rule);
         self.live = self.live.union(block(rule));
         self.start = self.start.with(first);
         self.ends = self.ends.with(first + bytes.len() as u8);
@@ -29,16 +28,15 @@ impl TemplateBook {
     }
 
     // Takes a rule out of force.
-    pub(crate) fn remove(&mut self, rule: u8)
-        requires { rule < 8 }
-        ensures kinds { self.new.kinds ≡ slice_set self.old.kinds rule None }
+    pub(crate) fn remove(&mut self, rule: Rule<RULES>)
+        ensures kinds { self.new.kinds.by_rule ≡ slice_set self.old.kinds.by_rule rule.number None }
         ensures takes { (c p : ℕ) → has (slice_index_or self.new.takes c nothing) p
-            ≡ (has (slice_index_or self.old.takes c nothing) p && not (p / 32 == rule)) }
-        ensures ends { (p : ℕ) → has self.new.ends p ≡ (has self.old.ends p && not (p / 32 == rule)) }
+            ≡ (has (slice_index_or self.old.takes c nothing) p && not (p / 32 == rule.number)) }
+        ensures ends { (p : ℕ) → has self.new.ends p ≡ (has self.old.ends p && not (p / 32 == rule.number)) }
         ensures note { self.new.asked ≡ self.old.asked }
     {
         let gone = block(rule);
-        self.kinds[rule as usize] = None;
+        self.kinds.remove(rule);
         self.live = self.live.without(gone);
         self.start = self.start.without(gone);
         self.ends = self.ends.without(gone);

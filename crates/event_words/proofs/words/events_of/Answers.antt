@@ -1,50 +1,46 @@
-use Rattle.std.proofs.Common.{◌<◌, true, Err, vec_items, sym, ap, ◌∙◌, subst}
-use Rattle.std.specs.Option.{option_map}
+use Rattle.std.proofs.Common.{◌≡◌, ◌++◌, [], ◌∷◌, Err, map, get_or, take, vec_items, sym, ap, ◌∙◌, subst, arith}
+use Rattle.std.proofs.lemmas.List.{take_all, take_more}
 use Rattle.std.proofs.lemmas.Result.{err_from_is_err_and}
-use Rattle.event_words.specs.Words.{Spells}
-use Rattle.event_words.proofs.Splitting.{Done, done_all, done_more, done_none, done_refused, left, left_words, parts_less, words_none, words_some}
+use Rattle.event_words.specs.Words.{InRange, NamesEach, Spells, event_code, named, named_code, words}
+use Rattle.event_words.specs.declared.words.Name.{Name}
+use Rattle.event_words.proofs.Naming.{Made, in_range_at, made_more}
 use Rattle.event_words.proofs.words.events_of.Goals as goal
-use Rattle.event_words.proofs.words.events_of.Goals.{then-is_empty, else-is_empty}
 
-pub loop-rest-init : goal.loop-rest-init
-loop-rest-init c =
+abbrev blank : Name
+blank = record { machine = 0; kind = 0 }
+
+pub loop-name-init : goal.loop-name-init
+loop-name-init c = (tt, ap (map event_code) c.new-events.ensures.items)
+
+pub returns-in_err-new : goal.returns-in_err-new
+returns-in_err-new c =
     let text = c.args.text.now in
-    let rest = option_map (λ x. x.now) c.if-is_empty.rest in
-    subst (λ es. Done text rest es true) (sym c.new-events.ensures.items) (done_none text rest
-    (elim c.if-is_empty.branch [
-      | then-is_empty w ↦ words_none text (sym c.is_empty.ensures ∙ w.if-is_empty.true) ∙ ap (λ o. left_words (option_map (λ x. x.now) o)) (sym w.rest-is)
-      | else-is_empty w ↦ words_some text (sym c.is_empty.ensures ∙ w.if-is_empty.false) ∙ ap (λ o. left_words (option_map (λ x. x.now) o)) (sym w.rest-is)
-    ]))
+    let names = c.deref-name-items.result.now in
+    let p = err_from_is_err_and c.from_residual-in_err-new.result c.from_residual-in_err-new.ensures.1 in
+    subst (Spells text) (sym (p.1 ∙ ap Err p.2)) (
+      map named names,
+      subst (λ ns. NamesEach (words text) (map named ns)) (sym c.deref-name-items.ensures.value) c.in_ok-names.ensures,
+      λ h. let r = in_range_at names c.loop-name.name-index blank h (omega arith) in c.in_err-new.ensures r.0 r.1,
+    )
 
-pub loop-rest-smaller : goal.loop-rest-smaller
-loop-rest-smaller c =
-    subst (λ o. left (option_map (λ x. x.now) c.part.result.rest) < left o) (sym (ap (option_map (λ x. x.now)) c.in-Some.is)) (parts_less _ _ _ c.part.ensures)
+pub loop-name-preserved : goal.loop-name-preserved
+loop-name-preserved c =
+    let names = c.deref-name-items.result.now in
+    let i = c.loop-name.name-index in
+    let n = get_or names i blank in
+    let event = c.in_ok-new.field-0 in
+    let h = c.in_ok-new.ensures in
+    let in_range : InRange (named n) = (h.0, h.1) in
+    let machine : event.machine ≡ n.machine = h.2 in
+    let kind : event.kind ≡ n.kind = h.3 in
+    let same : event_code event ≡ named_code (named n) = omega arith in
+    let made = made_more (take i names) n (vec_items c.loop-name.events) event c.loop-name.invariant in_range same in
+    subst (λ ns. Made ns (vec_items c.push.new.self)) (sym (take_more names i blank (omega arith)))
+    (subst (Made (take i names ++ (n ∷ []))) (sym c.in_ok-push.ensures.items) made)
 
-pub returns-in_err-here : goal.returns-in_err-here
-returns-in_err-here c =
+pub returns : goal.returns
+returns c =
     let text = c.args.text.now in
-    let p = err_from_is_err_and c.from_residual.result c.from_residual.ensures.1 in
-    let d = subst (λ o. Done text o (vec_items c.loop-rest.events) c.loop-rest.all) (ap (option_map (λ x. x.now)) c.in-Some.is) c.loop-rest.invariant in
-    let h = done_refused text _ _ _ (vec_items c.loop-rest.events) (vec_items c.take_word.new.events) c.loop-rest.all c.in_err-here.field-0.0 c.part.ensures d c.in_err-here.ensures in
-    subst (Spells text) (sym (p.1 ∙ ap Err p.2)) h
-
-pub loop-rest-preserved : goal.loop-rest-preserved
-loop-rest-preserved c =
-    let text = c.args.text.now in
-    let d = subst (λ o. Done text o (vec_items c.loop-rest.events) c.loop-rest.all) (ap (option_map (λ x. x.now)) c.in-Some.is) c.loop-rest.invariant in
-    done_more text _ _ _ (vec_items c.loop-rest.events) (vec_items c.take_word.new.events) c.loop-rest.all c.in_ok-here.here c.part.ensures d c.in_ok-here.ensures
-
-pub returns-then-all : goal.returns-then-all
-returns-then-all c =
-    let text = c.args.text.now in
-    let d = subst (λ o. Done text o (vec_items c.loop-rest.events) c.loop-rest.all) (ap (option_map (λ x. x.now)) c.in_default.is) c.loop-rest.invariant in
-    let h = done_all text (vec_items c.loop-rest.events) c.loop-rest.all d in
-    let k = h.2 c.if-all.true in
-    (h.0, h.1, k.0, k.1)
-
-pub returns-else-all : goal.returns-else-all
-returns-else-all c =
-    let text = c.args.text.now in
-    let d = subst (λ o. Done text o (vec_items c.loop-rest.events) c.loop-rest.all) (ap (option_map (λ x. x.now)) c.in_default.is) c.loop-rest.invariant in
-    let h = done_all text (vec_items c.loop-rest.events) c.loop-rest.all d in
-    (h.0, h.1, h.3 c.if-all.false)
+    let names = c.deref-name-items.result.now in
+    let made = subst (λ ns. Made ns (vec_items c.loop-name.events)) (take_all c.loop-name.name-index names (omega arith)) c.loop-name.invariant in
+    (map named names, subst (λ ns. NamesEach (words text) (map named ns)) (sym c.deref-name-items.ensures.value) c.in_ok-names.ensures, made.0, made.1)

@@ -1,7 +1,9 @@
-use Rattle.std.proofs.Common.{◌≡◌, ℕ, List, Some, None, Option, sym, ap, ◌∙◌, subst, arith, lit≤}
-use Rattle.std.specs.Option.{option_map}
+use Rattle.std.proofs.Common.{◌≡◌, ℕ, List, Some, None, Ok, Err, Option, Result, MatchResult, sym, ap, ◌∙◌, subst, lit≤, rules}
+use Rattle.std.specs.Option.{option_copied}
+use Rattle.std.specs.Result.{result_ok}
 use Rattle.lines.specs.Numerals.{Number}
 use Rattle.lines.specs.Parts.{Parts}
+use Rattle.lines.specs.declared.command.Expected.{Expected}
 use Rattle.lines.proofs.Leading.{digits_lack}
 use Rattle.lines.proofs.Parting.{one_parting}
 use Rattle.event_words.specs.Words.{Named, Names}
@@ -15,24 +17,32 @@ named_parts word first rest n h k =
     let s = one_parting 46 word first k.0 rest (Some k.1) h (lacks, k.2) in
     (k.1, s.1, subst (λ d. Number d n.machine) (sym s.0) k.3, k.4)
 
-some_not_none : (o : Option (List ℕ)) (d : List ℕ) → o ≡ None → o ≡ Some d → ⊥
-some_not_none o d e f = let z : ◌≡◌ {A = ℕ} 0 1 = cc in omega arith
+-- what gave no number writes none
+no_number : (d : List ℕ) (r : Result ℕ Expected) → MatchResult r (λ n. Number d n) (λ _. (n : ℕ) → Number d n → ⊥) → result_ok r ≡ None → (n : ℕ) → Number d n → ⊥
+no_number d (Ok x) h e = cc
+no_number d (Err x) h e = h
 
-pub returns-in_default : goal.returns-in_default
-returns-in_default c = λ n h.
-    let k = named_parts _ _ _ n c.part.ensures h in
-    some_not_none (option_map (λ x. x.now) c.part.result.rest) k.0 (ap (option_map (λ x. x.now)) c.in_default.is) k.1
+one : (o : Option (List ℕ)) (d e : List ℕ) → o ≡ Some d → o ≡ Some e → d ≡ e
+one o d e h k = cc
 
-pub returns-in_default-saturated : goal.returns-in_default-saturated
-returns-in_default-saturated c = λ n h.
-    let k = named_parts _ _ _ n c.part.ensures h in
-    c.in_default-saturated.ensures n.machine k.2
+pub returns-in_err-machine : goal.returns-in_err-machine
+returns-in_err-machine c =
+    let none : result_ok c.saturated.result ≡ None = search rules in
+    rw c.from_residual.ensures (λ n h. no_number _ c.saturated.result c.saturated.ensures none n.machine (named_parts _ _ _ n c.part.ensures h).2)
 
-pub returns-in_default-saturated-2 : goal.returns-in_default-saturated-2
-returns-in_default-saturated-2 c = λ n h.
+pub returns-in_err-rest : goal.returns-in_err-rest
+returns-in_err-rest c =
+    rw c.from_residual-in_err-rest.ensures
+    (λ n h.
     let k = named_parts _ _ _ n c.part.ensures h in
-    let e : k.0 ≡ c.in-Some.digits.now = one k.0 c.in-Some.digits.now (sym k.1 ∙ ap (option_map (λ x. x.now)) c.in-Some.is) in
-    c.in_default-saturated-2.ensures n.kind (subst (λ d. Number d n.kind) e k.3)
-  where
-    one : (d e : List ℕ) → Some d ≡ Some e → d ≡ e
-    one d e h = cc
+    let both : ◌≡◌ {A = Option (List ℕ)} None (Some k.0) = sym (ap option_copied c.in_err-rest.was) ∙ k.1 in
+    cc)
+
+pub returns-in_err-kind : goal.returns-in_err-kind
+returns-in_err-kind c =
+    let none : result_ok c.saturated-2.result ≡ None = search rules in
+    rw c.from_residual-in_err-kind.ensures
+    (λ n h.
+    let k = named_parts _ _ _ n c.part.ensures h in
+    let e : k.0 ≡ c.in_ok-rest.field-0.now = one _ _ _ k.1 (ap option_copied c.in_ok-rest.was) in
+    no_number _ c.saturated-2.result c.saturated-2.ensures none n.kind (subst (λ d. Number d n.kind) e k.3))

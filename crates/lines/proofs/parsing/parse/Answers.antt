@@ -1,4 +1,5 @@
 use Rattle.std.proofs.Common.{◌≡◌, ℕ, List, Some, None, Ok, Err, Option, Result, sym, refl, ap, ◌∙◌, subst}
+use Rattle.std.proofs.lemmas.Result.{MatchResult-from_err}
 use Rattle.lines.specs.Lines.{Answers, Makes, Parses, Spells, joined, spelling}
 use Rattle.lines.specs.Parts.{Parts}
 use Rattle.lines.specs.declared.command.Command.{Command}
@@ -29,8 +30,10 @@ module _ (line first : List ℕ) (rest : Option (List ℕ)) (parts : Parts 32 li
       let f = first_word c k in
       h c (subst (λ v. Makes v rest c) (one_word f.0 w (sym f.1 ∙ is)) f.2)
 
-pub returns-in_default : goal.returns-in_default
-returns-in_default c = λ k h. let f = first_word _ _ _ c.part.ensures k h in c.in_default.ensures f.0 f.1
+pub returns-in_err-word : goal.returns-in_err-word
+returns-in_err-word c =
+    MatchResult-from_err c.from_residual.result _ _ c.from_residual.ensures.0
+    (λ _ k h. let f = first_word _ _ _ c.part.ensures k h in c.in_err-word.ensures f.0 f.1)
 
 pub returns : goal.returns
-returns c = answered _ _ _ c.part.ensures c.in-Some.word c.in-Some.ensures c.with_arguments.result c.with_arguments.ensures
+returns c = answered _ _ _ c.part.ensures c.in_ok-word.word c.in_ok-word.ensures c.with_arguments.result c.with_arguments.ensures

@@ -1,8 +1,8 @@
 use Rattle.std.proofs.Common.{◌≡◌, ℕ, zero, suc, sym, refl, ap, ◌∙◌, subst, arith}
 use Rattle.std.proofs.lemmas.Bool.{both_ways}
 use Rattle.states.specs.Words.{some, digits_of}
-use Rattle.states.specs.declared.state.State.{State}
-use Rattle.states.specs.Sets.{has, set_of}
+use Rattle.states.specs.Sets.{State}
+use Rattle.states.specs.Sets.{has, with_members, words_of}
 use Rattle.states.proofs.Members.{is_set_of}
 use Rattle.numbers.specs.Number.{leads, number_next}
 use Rattle.numbers.proofs.Rows.{Right, row_right, one_code, no_code, row_goes, row_stays}
@@ -11,13 +11,13 @@ use Rattle.numbers.proofs.table.step.Goals.{then-holds+then-row-code+then-code-r
 
 -- every row of the table is right
 table_right : (c : goal.Joined-holds) (p : ℕ) → c.loop-p.p ≡ p → Right p c.row-item.result
-unfolding set_of digits_of
-table_right c zero e = row_right 0 (rw e at c.row-item.is) (λ x. refl) refl refl
-table_right c (suc zero) e = row_right 1 (rw e at c.row-item.is) (one_code 46) refl refl
-table_right c (suc (suc zero)) e = row_right 2 (rw e at c.row-item.is) (λ x. refl) refl refl
-table_right c (suc (suc (suc zero))) e = row_right 3 (rw e at c.row-item.is) (one_code 109) refl refl
-table_right c (suc (suc (suc (suc zero)))) e = row_right 4 (rw e at c.row-item.is) (one_code 109) refl refl
-table_right c (suc (suc (suc (suc (suc zero))))) e = row_right 5 (rw e at c.row-item.is) no_code refl refl
+unfolding with_members words_of digits_of
+table_right c zero e = row_right 0 (rw e at c.row-item.is) (λ x. refl) refl
+table_right c (suc zero) e = row_right 1 (rw e at c.row-item.is) (one_code 46) refl
+table_right c (suc (suc zero)) e = row_right 2 (rw e at c.row-item.is) (λ x. refl) refl
+table_right c (suc (suc (suc zero))) e = row_right 3 (rw e at c.row-item.is) (one_code 109) refl
+table_right c (suc (suc (suc (suc zero)))) e = row_right 4 (rw e at c.row-item.is) (one_code 109) refl
+table_right c (suc (suc (suc (suc (suc zero))))) e = row_right 5 (rw e at c.row-item.is) no_code refl
 table_right c (suc (suc (suc (suc (suc (suc n)))))) e = absurd (omega arith)
 
 pub loop-p-init : goal.loop-p-init

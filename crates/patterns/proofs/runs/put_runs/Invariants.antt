@@ -1,7 +1,6 @@
-use Rattle.std.proofs.Common.{cond, not}
-use Rattle.states.specs.Sets.{has}
-use Rattle.patterns.proofs.Running.{Going}
+use Rattle.patterns.specs.Classes.{runs_left}
+use Rattle.patterns.proofs.Written.{Putting}
 use Rattle.patterns.proofs.runs.put_runs.Given as goal
 
-abbrev pub invariant-loop-byte : goal.invariant-loop-byte
-invariant-loop-byte l = Going (λ x. cond l.others (not (has l.set x)) (has l.set x)) l.byte l.initial.out l.initial.filled l.last l.more l.out l.filled
+abbrev pub invariant-loop-run : goal.invariant-loop-run
+invariant-loop-run l = Putting l.fn.first (runs_left l.initial.run-iterator) (runs_left l.run-iterator) l.fn.sink l.sink

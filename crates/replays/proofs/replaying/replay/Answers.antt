@@ -1,7 +1,8 @@
 use Rattle.std.proofs.Common.{◌≡◌, [], ◌∷◌, ◌++◌, sym, refl, ap, ◌∙◌, append_assoc, append-nil}
 use Rattle.std.specs.Vec.Iter.{into_iter_items}
+use Rattle.std.proofs.lemmas.List.{nil_from_length}
 use Rattle.readings.proofs.Acting.{acts_history}
-use Rattle.replays.proofs.Underway.{replaying_none, replaying_more, replaying_done_by, replayed_by, none_left}
+use Rattle.replays.proofs.Underway.{replaying_none, replaying_more, replaying_done_by, replayed_by}
 use Rattle.replays.proofs.replaying.replay.Goals as goal
 
 pub loop-ask-init : goal.loop-ask-init
@@ -16,8 +17,8 @@ loop-ask-preserved g c = (
 pub returns-clause-acts : goal.returns-clause-acts
 returns-clause-acts g c =
     let book = g.B.ChangingBook in
-    let left : into_iter_items c.loop-ask.ask-iterator ≡ [] = none_left _ (sym c.loop-ask.ask-iterator.rest.ok.0 ∙ c.in-None.ensures.steps.0) in
-    replaying_done_by _ _ _ (g.B.Book.model c.args.book) c.args.edition c.in-Ok.ensures.made (g.met.B.Book.lawful _)
+    let left : into_iter_items c.loop-ask.ask-iterator ≡ [] = nil_from_length _ (sym c.loop-ask.ask-iterator.rest.ok.0 ∙ c.in-None.ensures.steps.0) in
+    replaying_done_by _ _ _ (g.B.Book.model c.args.book) c.args.edition c.in_ok-reader.ensures.made (g.met.B.Book.lawful _)
     (acts_history book.refusal book.grows book.shrinks _)
     (sym c.into_iter-ask-iterator.ensures.into_iter_gives.0 ∙ c.loop-ask.invariant.1 ∙ ap (λ xs. c.loop-ask.yielded ++ xs) left ∙ append-nil _) c.loop-ask.invariant.0
 

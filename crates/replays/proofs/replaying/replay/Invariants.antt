@@ -8,5 +8,5 @@ use Rattle.replays.proofs.replaying.replay.Given as goal
 -- the calls that were done and their log, and the calls that are left
 abbrev pub invariant-loop-ask : goal.invariant-loop-ask
 invariant-loop-ask g l =
-    Replaying g.B.Symbol.Symbol.code (Acts g.B.ChangingBook.refusal g.B.ChangingBook.grows g.B.ChangingBook.shrinks) (view g.B.Book.model l.initial.reader) l.yielded (vec_items l.log) (view g.B.Book.model l.reader)
+    Replaying g.B.Symbol.Symbol.code (Acts g.B.ChangingBook.refusal g.B.ChangingBook.grows g.B.ChangingBook.shrinks) (view l.initial.reader) l.yielded (vec_items l.log) (view l.reader)
     × (into_iter_items l.initial.ask-iterator ≡ l.yielded ++ into_iter_items l.ask-iterator)

@@ -9,8 +9,8 @@ pub loop-i-preserved : goal.loop-i-preserved
 loop-i-preserved c =
     let codes = c.codes_of-codes.result in (
       c.mark.array_long,
-      place_more c.args.takes.now c.loop-i.takes c.mark.new.takes c.args.first c.args.template.now c.loop-i.i _ codes.low codes.end
-          c.loop-i.invariant.1 c.loop-i-test.true refl c.codes_of-codes.ensures c.mark.ensures,
+      place_more c.args.takes.now c.loop-i.takes c.mark.new.takes c.args.first c.args.template.now c.loop-i.i _ codes.start codes.end
+          c.loop-i.invariant.1 c.loop-i-test.true refl c.codes_of-codes.ensures.codes c.mark.ensures,
     )
 
 pub returns : goal.returns

@@ -15,9 +15,9 @@ returns-in_ok-fed-in-Ok g c = (
   (
     c.in-Ok.fed,
     record {
-      walk = c.in-Some.walk;
-      here = sym c.in-Some.ensures.value;
-      reader = view g.B.Book.model c.feed.new.self;
+      walk = c.in_ok-walk.walk;
+      here = sym c.take.ensures.value ∙ c.in_ok-walk.ensures.ok_part;
+      reader = view c.feed.new.self;
       does = c.in-Ok.ensures.does;
       after = refl;
       tells = refl;
@@ -28,15 +28,15 @@ returns-in_ok-fed-in-Ok g c = (
 pub returns-in_ok-refused-in-Err : goal.returns-in_ok-refused-in-Err
 returns-in_ok-refused-in-Err g c =
     let model = g.B.Book.model in
-    let u = use_of model g.B.Symbol.Symbol.code c.args.self.now in
-    let walk = c.in-Some.walk in
+    let u = use_of c.args.self.now in
+    let walk = c.in_ok-walk.walk in
     let back = c.in-Err.back in
     let h = c.in-Err.ensures in
-    let here = sym c.in-Some.ensures.value in (
+    let here = sym c.take.ensures.value ∙ c.in_ok-walk.ensures.ok_part in (
       refused_line c.tell.result,
       c.in_ok-refused-in-Err.ensures,
       (
-        ap (λ x. record { reader = view model x; cursor = u.cursor; walk = Some back.walk }) h.back.1
+        ap (λ x. record { reader = view x; cursor = u.cursor; walk = Some back.walk }) h.back.1
             ∙ ap (λ k. record { reader = u.reader; cursor = u.cursor; walk = k }) (ap Some h.back.0 ∙ sym here),
         record {
           walk = walk;
@@ -44,7 +44,7 @@ returns-in_ok-refused-in-Err g c =
           back = back;
           does =
               subst
-              (λ x. Does (read (feed walk.edition walk.state (g.B.Symbol.Symbol.code c.args.symbol))) (fed_told (Err back)) (fed_count (Err back)) u.reader (view model x))
+              (λ x. Does (read (feed walk.edition walk.state (g.B.Symbol.Symbol.code c.args.symbol))) (fed_told (Err back)) (fed_count (Err back)) u.reader (view x))
               h.back.1 h.does;
           tells = ap refused_line c.tell.ensures;
         },

@@ -1,45 +1,23 @@
-use Rattle.std.proofs.Common.{Ok, Err, codes, refl, ap}
-use Rattle.std.specs.Option.{option_map}
+use Rattle.std.proofs.Common.{rules, codes, sym, refl, ap, ◌∙◌}
+use Rattle.std.specs.Option.{option_map, option_copied}
 use Rattle.reader.specs.View.{view}
-use Rattle.answers.specs.Texts.{refused_line, token_line}
-use Rattle.contexts.specs.Contexts.{marker_of, use_of}
+use Rattle.contexts.specs.Contexts.{marker_of}
+use Rattle.contexts.specs.Uses.{token_text}
 use Rattle.contexts.proofs.context.Context.peek.Goals as goal
 
-pub returns-in_ok-token-in-Ok : goal.returns-in_ok-token-in-Ok
-returns-in_ok-token-in-Ok g c =
+pub returns : goal.returns
+returns g c =
     let model = g.B.Book.model in
-    let code = g.B.Symbol.Symbol.code in
-    let u = use_of model code c.args.self.now in
-    let v = view model c.peek_token.new.reader in
-    let t = c.in-Ok.token in (
-      token_line (codes "peek") (model c.book.result.now).meaning.kind t.place t.length t.rules t.count,
-      c.in_ok-token-in-Ok.ensures,
+    let code = g.B.Symbol.Symbol.code in (
+      token_text (codes "peek") (model c.book.result.now).meaning.kind c.peek-token.result,
+      c.in_ok-tell_token.ensures,
       record {
-        cursor = marker_of code c.in-Some.track;
-        here = ap (option_map (marker_of code)) c.in-Some.is;
-        result = Ok t;
-        reader = v;
-        does = c.in-Ok.ensures;
+        cursor = marker_of code c.in_ok-track.track.now;
+        here = ap (option_map (marker_of code)) (sym c.as_ref.ensures.value ∙ ap option_copied c.in_ok-track.ensures.ok_part);
+        result = c.peek-token.result;
+        reader = view c.peek-token.new.self;
+        does = search rules;
         after = refl;
-        tells = ap (λ b. token_line (codes "peek") (model b).meaning.kind t.place t.length t.rules t.count) c.book.ensures;
-      },
-    )
-
-pub returns-in_ok-refused-in-Err : goal.returns-in_ok-refused-in-Err
-returns-in_ok-refused-in-Err g c =
-    let model = g.B.Book.model in
-    let code = g.B.Symbol.Symbol.code in
-    let u = use_of model code c.args.self.now in
-    let v = view model c.peek_token.new.reader in (
-      refused_line c.tell.result,
-      c.in_ok-refused-in-Err.ensures,
-      record {
-        cursor = marker_of code c.in-Some.track;
-        here = ap (option_map (marker_of code)) c.in-Some.is;
-        result = Err c.in-Err.refusal;
-        reader = v;
-        does = c.in-Err.ensures;
-        after = refl;
-        tells = ap refused_line c.tell.ensures;
+        tells = ap (λ b. token_text (codes "peek") (model b).meaning.kind c.peek-token.result) c.book.ensures;
       },
     )

@@ -1,7 +1,7 @@
-use Rattle.std.proofs.Common.{◌≡◌, ℕ, min, List, map, length, Some, vec_items, string_bytes, sym, ap, ◌∙◌}
+use Rattle.std.proofs.Common.{◌≡◌, ℕ, min, List, map, length, Some, vec_items, sym, ap, ◌∙◌}
 use lib.ListN.{length-map}
 use Rattle.answers.specs.Texts.{cursor_line}
-use Rattle.answers.proofs.Appending.{answered}
+use Rattle.passes.proofs.Steps.{on_ok_map}
 use Rattle.contexts.specs.Uses.{Places, Use}
 use Rattle.contexts.specs.Contexts.{use_of}
 use Rattle.contexts.proofs.context.Context.place.Goals as goal
@@ -16,10 +16,8 @@ made_at u text place n p e f =
 pub returns : goal.returns
 returns g c =
     let code = g.B.Symbol.Symbol.code in
-    let u = use_of g.B.Book.model code c.args.self.now in
-    let text = map code (vec_items c.args.text) in
-    let p = c.min-place.result in
-    let n = c.len-length.result in
-    answered c.cursor.result (Places c.args.place text u (record { reader = u.reader; cursor = Some (record { text = text; place = p; from = p; to = p }); walk = u.walk }))
-    (string_bytes c.args.out.now) (cursor_line p n) (string_bytes c.cursor.new.out)
-    (made_at u text c.args.place n p (length-map (vec_items c.args.text) code ∙ sym c.args.text.ok.0 ∙ sym c.len-length.ensures) c.min-place.ensures) c.cursor.ensures
+    let u = use_of c.args.self.now in
+    let items = vec_items c.args.text in
+    on_ok_map c.cursor.result
+    (λ e. (_, e, made_at u (map code items) c.args.place c.len-length.result c.min-place.result (length-map items code ∙ sym c.args.text.ok.0 ∙ sym c.len-length.ensures) c.min-place.ensures))
+    c.cursor.ensures

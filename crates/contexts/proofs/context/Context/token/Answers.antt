@@ -1,45 +1,27 @@
-use Rattle.std.proofs.Common.{Some, Ok, Err, codes, ap}
+use Rattle.std.proofs.Common.{Some, codes, ap}
 use Rattle.std.specs.Option.{option_map}
 use Rattle.reader.specs.View.{view}
-use Rattle.answers.specs.Texts.{refused_line, token_line}
 use Rattle.contexts.specs.Contexts.{marker_of, use_of}
+use Rattle.contexts.specs.Uses.{token_text}
 use Rattle.contexts.proofs.context.Context.token.Goals as goal
 
-pub returns-in_ok-token-in-Ok : goal.returns-in_ok-token-in-Ok
-returns-in_ok-token-in-Ok g c =
+pub returns : goal.returns
+returns g c =
     let model = g.B.Book.model in
     let code = g.B.Symbol.Symbol.code in
-    let u = use_of model code c.args.self.now in
-    let v = view model c.read_token.new.reader in
-    let t = c.in-Ok.token in (
-      token_line (codes "token") (model c.book.result.now).meaning.kind t.place t.length t.rules t.count,
-      c.in_ok-token-in-Ok.ensures,
+    let u = use_of c.args.self.now in
+    let v = view c.read_token-token.new.reader in
+    let t = c.read_token-token.result in
+    let h = c.read_token-token.ensures in (
+      token_text (codes "token") (model c.book.result.now).meaning.kind t,
+      c.in_ok-tell_token.ensures,
       record {
         cursor = marker_of code c.in-Some.track;
         here = ap (option_map (marker_of code)) c.in-Some.is;
-        result = Ok t;
+        result = t;
         reader = v;
-        does = c.in-Ok.ensures.does;
-        after = ap (λ m. record { reader = v; cursor = Some m; walk = u.walk }) c.in-Ok.ensures.moves;
-        tells = ap (λ b. token_line (codes "token") (model b).meaning.kind t.place t.length t.rules t.count) c.book.ensures;
-      },
-    )
-
-pub returns-in_ok-refused-in-Err : goal.returns-in_ok-refused-in-Err
-returns-in_ok-refused-in-Err g c =
-    let model = g.B.Book.model in
-    let code = g.B.Symbol.Symbol.code in
-    let u = use_of model code c.args.self.now in
-    let v = view model c.read_token.new.reader in (
-      refused_line c.tell.result,
-      c.in_ok-refused-in-Err.ensures,
-      record {
-        cursor = marker_of code c.in-Some.track;
-        here = ap (option_map (marker_of code)) c.in-Some.is;
-        result = Err c.in-Err.refusal;
-        reader = v;
-        does = c.in-Err.ensures.does;
-        after = ap (λ m. record { reader = v; cursor = Some m; walk = u.walk }) c.in-Err.ensures.moves;
-        tells = ap refused_line c.tell.ensures;
+        does = h.does;
+        after = ap (λ m. record { reader = v; cursor = Some m; walk = u.walk }) h.moves;
+        tells = ap (λ b. token_text (codes "token") (model b).meaning.kind t) c.book.ensures;
       },
     )

@@ -1,8 +1,9 @@
-use Rattle.std.proofs.Common.{◌≡◌, None, sym, refl, arith}
+use Rattle.std.proofs.Common.{◌≡◌, ℕ, None, sym, refl, subst, arith}
 use Rattle.expressions.specs.Rules.{refusal}
 use Rattle.expressions.proofs.Texts.{meets_denoted}
 use Rattle.expressions.proofs.Others.{added_stays}
 use Rattle.expression_book.specs.Tables.{table_meaning}
+use Rattle.expression_book.specs.Building.{Puts}
 use Rattle.expression_book.specs.Laws.{table_lawful}
 use Rattle.expression_book.proofs.Alike.{texts_same}
 use Rattle.expression_book.proofs.Added.{table_additive, live_size, add_alike, added, means}
@@ -16,10 +17,12 @@ returns c =
     let r = c.args.rule in
     let k = c.args.kind in
     let bytes = c.args.bytes.now in
-    let answer : None ≡ refusal c.args.last (table_meaning a) r k bytes = c.in_ok-ask.ensures in
+    let answer : None ≡ refusal c.args.last (table_meaning a) r k bytes = c.in_ok-rule.ensures.answer in
     let q = asked c.args.last (table_meaning a) r k bytes (sym answer) in
     let e = q.expression in
-    let puts = c.put.ensures e q.spelled in
+    let it = c.in_ok-rule.rule in
+    let same = c.in_ok-rule.ensures.rule in
+    let puts = subst (λ (x : ℕ). Puts r x e a b) same.1 (subst (λ (x : ℕ). Puts x it.kind e a b) same.0 (c.put.ensures e q.spelled)) in
     let free = q.free in
     let is = means r k e a b q.number free puts in
     let change = added r k e a b q.number free puts in

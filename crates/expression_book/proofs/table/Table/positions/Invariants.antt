@@ -1,10 +1,8 @@
-use Rattle.states.specs.Sets.{has, size}
-use Rattle.states.proofs.Gather.{Gathered}
+use Rattle.std.proofs.Common.{◌≡◌, ℕ}
+use Rattle.std.specs.List.{list_any}
+use Rattle.states.specs.Sets.{has}
 use Rattle.expression_book.proofs.Removed.{itself}
 use Rattle.expression_book.proofs.table.Table.positions.Given as goal
 
 abbrev pub invariant-loop-p : goal.invariant-loop-p
-invariant-loop-p l = Gathered (itself l.self l.rule) (has l.self.live) (has l.rest) (has l.out)
-
-abbrev pub decreases-loop-p : goal.decreases-loop-p
-decreases-loop-p l = size l.rest
+invariant-loop-p l = (q : ℕ) → has l.out q ≡ list_any (λ p. itself l.self l.rule p q) l.yielded

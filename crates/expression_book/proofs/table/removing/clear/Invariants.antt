@@ -1,11 +1,7 @@
 use Rattle.std.proofs.Common.{◌≡◌}
-use Rattle.states.specs.Sets.{has, size}
 use Rattle.expression_book.specs.Rows.{blank}
 use Rattle.expression_book.proofs.Edits.{Edited}
 use Rattle.expression_book.proofs.table.removing.clear.Given as goal
 
 abbrev pub invariant-loop-p : goal.invariant-loop-p
-invariant-loop-p l = Edited (λ v w. w ≡ blank) l.initial.rows l.rows (has l.initial.rest) (has l.rest)
-
-abbrev pub decreases-loop-p : goal.decreases-loop-p
-decreases-loop-p l = size l.rest
+invariant-loop-p l = Edited (λ v w. w ≡ blank) l.initial.rows l.rows l.yielded

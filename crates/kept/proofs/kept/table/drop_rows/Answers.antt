@@ -1,7 +1,7 @@
 use Rattle.std.proofs.Common.{◌≡◌, ℕ, ◌+◌, ◌<◌, ◌≤◌, Bool, not, List, length, vec_items, sym, ap, ◌∙◌, subst₂, arith, rules}
 use Rattle.std.proofs.lemmas.List.Filters.{FiltersInPlace, FiltersInPlace-all}
 use Rattle.states.specs.Sets.{shares}
-use Rattle.states.specs.declared.state.State.{State}
+use Rattle.states.specs.Sets.{State}
 use Rattle.kept.specs.Steps.{Step, zipped}
 use Rattle.kept.proofs.Zipped.{length_zipped, zipped_take, drop_more_keep, drop_more_leave}
 use Rattle.kept.proofs.kept.table.drop_rows.Goals as goal

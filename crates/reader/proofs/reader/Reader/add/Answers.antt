@@ -5,6 +5,7 @@ use Rattle.books.specs.declared.refusal.Refusal.TheVariants.{Book}
 use Rattle.readings.specs.Readings.Told.{changed}
 use Rattle.readings.specs.Calls.Call.{add as adding}
 use Rattle.readings.proofs.Acting.{acts_does}
+use Rattle.readings.proofs.Changed.{right_added}
 use Rattle.reader.specs.View.{view}
 use Rattle.reader.proofs.Changes.{same_reader, asks_book, last_edition}
 use Rattle.reader.proofs.reader.Reader.add.Goals as goal
@@ -25,11 +26,11 @@ returns-in_err-add g c =
     let p = err_from_is_err_and c.from_residual-in_err-add.result c.from_residual-in_err-add.ensures.1 in
     let room = c.in_ok-edition.ensures.0 in
     let h = c.in_err-add.ensures in
-    let same = same_reader c.args.self.now c.add.new.self _ _ h.change in
+    let same = same_reader c.args.self.now c.add.new.self _ _ _ h.change in
     rw (p.1, p.2) (record {
       answer = ap (option_map Book) h.answer ∙ sym (asks_book _ _ room);
-      does = inr (inl (room, (c.in_err-add.field-0.0, tt, record { tells = refl; count = refl; same = ap (view g.B.Book.model) same })));
-      acts = inr (inl (room, (c.in_err-add.field-0.0, sym h.answer, record { tells = refl; count = refl; same = ap (view g.B.Book.model) same })));
+      does = inr (inl (room, (c.in_err-add.field-0.0, tt, record { tells = refl; count = refl; same = ap view same })));
+      acts = inr (inl (room, (c.in_err-add.field-0.0, sym h.answer, record { tells = refl; count = refl; same = ap view same })));
       same = same;
     })
 
@@ -55,3 +56,6 @@ pub returns-clause-does : goal.returns-clause-does
 returns-clause-does g c =
     let book = g.B.ChangingBook in
     acts_does book.refusal book.grows book.shrinks (adding c.args.rule c.args.kind c.args.bytes.now) _ _ _ _ (returns-clause-acts g c)
+
+pub invariant_of-self-2-clause-sound : goal.invariant_of-self-2-clause-sound
+invariant_of-self-2-clause-sound g c = right_added _ (g.met.B.Book.lawful _) c.in_ok-add.ensures.change.meaning c.args.self.now.sound

@@ -1,10 +1,12 @@
-use Rattle.std.proofs.Common.{sym, refl, ap, ◌∙◌, inl, inr}
+use Rattle.std.proofs.Common.{sym, refl, ap, ◌∙◌, subst, inl, inr}
 use Rattle.std.specs.Option.{option_map}
 use Rattle.std.proofs.lemmas.Result.{err_from_is_err_and}
 use Rattle.books.specs.declared.refusal.Refusal.TheVariants.{Book}
+use Rattle.readings.specs.Views.{AllRight}
 use Rattle.readings.specs.Readings.Told.{changed}
 use Rattle.readings.specs.Calls.Call.{delete as deleting}
 use Rattle.readings.proofs.Acting.{acts_does}
+use Rattle.readings.proofs.Changed.{right_deleted}
 use Rattle.readings.proofs.Dropped.{drops}
 use Rattle.reader.specs.View.{view}
 use Rattle.reader.proofs.Changes.{same_reader, asks_book, last_edition, absent_is}
@@ -26,12 +28,12 @@ returns-in_err-delete g c =
     let p = err_from_is_err_and c.from_residual-in_err-delete.result c.from_residual-in_err-delete.ensures.1 in
     let room = c.in_ok-edition.ensures.0 in
     let h = c.in_err-delete.ensures in
-    let same = same_reader c.args.self.now c.delete.new.self _ _ h.change in
+    let same = same_reader c.args.self.now c.delete.new.self _ _ _ h.change in
     let absent = absent_is (g.B.Book.model c.args.self.now.book).meaning c.args.rule _ h.answer in
     rw (p.1, p.2) (record {
       answer = ap (option_map Book) h.answer ∙ sym (asks_book _ _ room);
-      does = inr (inl (room, (c.in_err-delete.field-0.0, absent, record { tells = refl; count = refl; same = ap (view g.B.Book.model) same })));
-      acts = inr (inl (room, (c.in_err-delete.field-0.0, absent, record { tells = refl; count = refl; same = ap (view g.B.Book.model) same })));
+      does = inr (inl (room, (c.in_err-delete.field-0.0, absent, record { tells = refl; count = refl; same = ap view same })));
+      acts = inr (inl (room, (c.in_err-delete.field-0.0, absent, record { tells = refl; count = refl; same = ap view same })));
       same = same;
     })
 
@@ -57,3 +59,9 @@ pub returns-clause-does : goal.returns-clause-does
 returns-clause-does g c =
     let book = g.B.ChangingBook in
     acts_does book.refusal book.grows book.shrinks (deleting c.args.rule) _ _ _ _ (returns-clause-acts g c)
+
+pub invariant_of-self-2-clause-sound : goal.invariant_of-self-2-clause-sound
+invariant_of-self-2-clause-sound g c =
+    let h = c.in_ok-delete.ensures.change.meaning in
+    let left = c.drop_touching.ensures ∙ drops c.args.rule _ _ h c.live-before.result c.live.result c.without-gone.result c.live-before.ensures c.live.ensures c.without-gone.ensures _ in
+    subst (AllRight _) (sym left) (right_deleted _ (g.met.B.Book.lawful _) h c.args.self.now.sound)

@@ -1,9 +1,5 @@
-use Rattle.std.proofs.Common.{rules}
 use Rattle.readings.proofs.Stand.{stands}
 use Rattle.reader.proofs.reader.Reader.new.Goals as goal
 
-pub returns-in-Ok : goal.returns-in-Ok
-returns-in-Ok g c = record {
-  made = search rules;
-  stands = stands _ c.in-Ok.ensures (g.met.B.Book.lawful _);
-}
+pub returns-clause-stands : goal.returns-clause-stands
+returns-clause-stands g c = stands _ c.in-Ok.ensures (g.met.B.Book.lawful _)

@@ -1,5 +1,5 @@
 use Rattle.std.proofs.Common.{string_bytes, sym, refl, subst}
-use Rattle.contexts.specs.Uses.{Answers}
+use Rattle.passes.specs.Runs.{Answers}
 use Rattle.sessions.specs.Sessions.{Runs}
 use Rattle.sessions.specs.Views.{here_of}
 use Rattle.answers.specs.Texts.{new_line}

@@ -14,7 +14,7 @@ returns g c =
     let done = c.add.ensures in
     let a = c.args.self.now.table in
     let b = c.add.new.self in
-    let last = c.last_code.ensures in
+    let last = c.LAST.ensures in
     record {
       answer = done.answer ∙ ap (λ (l : ℕ). refusal l (table_meaning a) c.args.rule c.args.kind c.args.bytes.now) last;
       change = MatchResult-weaker c.add.result done.change (λ u x. x) (λ f e. ap (λ (t : Table). record { table = t; symbol = c.args.self.now.symbol }) e);
@@ -23,5 +23,5 @@ returns g c =
         others = x.1;
         additive = table_additive b;
       }) (made_both c.add.result _ _ done.adopts done.others);
-      denoting = λ h. denoting b (add_expressed a b c.args.rule c.last_code.result c.args.kind c.args.bytes.now c.add.result done.change done.adopts done.others h.expressed);
+      denoting = λ h. denoting b (add_expressed a b c.args.rule c.LAST.result c.args.kind c.args.bytes.now c.add.result done.change done.adopts done.others h.expressed);
     }

@@ -7,5 +7,5 @@ pub returns : goal.returns
 returns c = record {
   value = next_made c.args.self.now c.args.state c.meet.result c.raised.result c.args.symbol _ (omega arith)
       c.meet.ensures c.raised.ensures.first c.raised.ensures.others;
-  after = ap (template_model c.args.self.now.kinds c.args.self.now.takes c.args.self.now.ends) c.saturating_add-self.ensures;
+  after = ap (template_model c.args.self.now.kinds.by_rule c.args.self.now.takes c.args.self.now.ends) c.saturating_add-self.ensures;
 }

@@ -1,0 +1,2 @@
+mod Running
+pub mod Steps

@@ -1,0 +1,37 @@
+-- Passing the lines of a script one after the other.
+use Rattle.std.proofs.Common.{◌≡◌, ℕ, suc, ◌<◌, ◌≤◌, List, [], ◌∷◌, ◌++◌, length, is_some, Some, None, Option, sym, refl, ap, ◌∙◌, subst, append_assoc, append-nil, arith, length-append}
+use Rattle.std.specs.Option.{option_map}
+use Rattle.lines.specs.Parts.{Parts}
+use Rattle.passes.specs.Scripts.{Place, Written, Running, Expecting, Passes, Goes, stays, then, Appends, left}
+
+parts_less : (mark : ℕ) (t v : List ℕ) (rest : Option (List ℕ)) → Parts mark t v rest → left rest < suc (length t)
+parts_less mark t v None h = omega arith
+parts_less mark t v (Some rest) h = let e = ap length h.1 ∙ length-append v (mark ∷ rest) in omega arith
+
+pub passes_less : {V : Type 0} {runs : Running V} {unfit : Expecting V} (p q : Place V) (w : Written) → Passes runs unfit p q w → left q.rest < left p.rest
+passes_less p q w h = subst (λ o. left q.rest < left o) (sym h.here) (parts_less 10 h.script h.line q.rest h.parts)
+
+goes_less : {V : Type 0} {runs : Running V} {unfit : Expecting V} (p q : Place V) (w : Written) → Goes runs unfit p q w → left q.rest ≤ left p.rest
+goes_less p q w stays = omega arith
+goes_less p q w (then {q = r} {v = v} {w = u} g s) = let h = goes_less p r v g in let k = passes_less r q u s in omega arith
+
+-- after a line more, less is left than at first
+pub goes_passes_less : {V : Type 0} {runs : Running V} {unfit : Expecting V} (p q r : Place V) (v w : Written) → Goes runs unfit p q v → Passes runs unfit q r w → left r.rest < left p.rest
+goes_passes_less p q r v w g s = let h = goes_less p q v g in let k = passes_less q r w s in omega arith
+
+-- no line is passed yet
+pub goes_nowhere : {V : Type 0} {runs : Running V} {unfit : Expecting V} (p : Place V) (a b : List ℕ) → Appends (Goes runs unfit p p) a a b b
+goes_nowhere p a b = (record { answers = []; reports = [] }, sym (append-nil a), sym (append-nil b), stays)
+
+-- one line more is passed
+pub goes_on : {V : Type 0} {runs : Running V} {unfit : Expecting V} (p q r : Place V) (a b c a' b' c' : List ℕ) → Appends (Goes runs unfit p q) a b a' b' → Appends (Passes runs unfit q r) b c b' c' → Appends (Goes runs unfit p r) a c a' c'
+goes_on p q r a b c a' b' c' (v, e, f, g) (w, k, l, s) = (
+  record { answers = v.answers ++ w.answers; reports = v.reports ++ w.reports },
+  k ∙ ap (λ x. x ++ w.answers) e ∙ append_assoc a v.answers w.answers,
+  l ∙ ap (λ x. x ++ w.reports) f ∙ append_assoc a' v.reports w.reports,
+  then g s,
+)
+
+pub some_mapped : {A B : Type 0} (f : A → B) (o : Option A) → is_some (option_map f o) ≡ is_some o
+some_mapped f None = refl
+some_mapped f (Some x) = refl

@@ -1,0 +1,10 @@
+// Scripts, which are run line by line by whatever runs one line.
+#![tactic(auto)]
+
+mod fault;
+mod runner;
+mod script;
+
+pub use fault::Fault;
+pub use runner::LineRunner;
+pub use script::Script;

@@ -1,0 +1,2 @@
+-- What an event is printed as.
+pub mod Texts
