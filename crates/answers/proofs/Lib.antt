@@ -1,4 +1,3 @@
 pub mod Appending
 mod Bytes
-mod Listing
 mod Writing

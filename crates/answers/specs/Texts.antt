@@ -1,9 +1,8 @@
 -- The text of answers.
-use Rattle.std.specs.Prelude.{◌≡◌, ℕ, zero, suc, ◌+◌, ◌/◌, ◌%◌, Bool, true, false, cond, not, ◌&&◌, List, [], ◌∷◌, ◌++◌, Some, None, OnOk, String, string_bytes, codes, decimal, filter, Option, Result, ◌==◌, nat_le, nat_lt}
+use Rattle.std.specs.Prelude.{◌≡◌, ℕ, ◌+◌, ◌/◌, ◌%◌, Bool, true, false, cond, not, ◌&&◌, List, [], ◌∷◌, ◌++◌, Some, None, OnOk, String, string_bytes, codes, decimal, Option, Result, ◌==◌, nat_le, nat_lt}
 use Rattle.std.specs.declared.alloc.Global.{Global}
 use Rattle.symbols.specs.Texts.{event_words}
-use Rattle.states.specs.Sets.{has_rule}
-use Rattle.states.specs.Sets.{Rules}
+use Rattle.states.specs.Sets.{Rules, members}
 use Rattle.books.specs.Refusals.{told_text}
 use Rattle.books.specs.declared.refusal.Told.{Told}
 use Rattle.lines.specs.Lines.{book_word, expected_text}
@@ -32,15 +31,6 @@ kind_text None = codes "-"
 
 abbrev pub kind_line : ℕ → Option ℕ → List ℕ
 kind_line rule kind = codes "kind rule=" ++ (decimal rule ++ (codes " kind=" ++ (kind_text kind ++ (10 ∷ []))))
-
--- the numbers from n on, k of them
-abbrev pub rising : ℕ → ℕ → List ℕ
-rising zero n = []
-rising (suc k) n = n ∷ rising k (n + 1)
-
--- the members of a set of rules, in rising order
-unfoldable pub members : Rules → List ℕ
-members rules = filter (has_rule rules) (rising 64 0)
 
 -- each element's text behind what stands between two
 abbrev pub trailed : List ℕ → (ℕ → List ℕ) → List ℕ → List ℕ

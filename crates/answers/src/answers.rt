@@ -1,7 +1,6 @@
 // One line for each answer, appended to what is there. Each fails only for want of memory.
 ghost use Rattle.std.specs.Prelude.{map, length, codes};
-ghost use Rattle.symbols.specs.contracts.event.EventSymbol.TheImpl.{ghosts as event_symbol};
-ghost use Rattle.answers.specs.Texts.{Writes, change_line, cursor_line, feed_line, finish_line, kind_line, last_line, malformed_line, new_line, numbered, parted, read_line, refused_line, shown_events, token_line};
+ghost use Rattle.answers.specs.Texts.{Writes, change_line, cursor_line, feed_line, finish_line, kind_line, last_line, malformed_line, new_line, numbered, parted, read_line, refused_line, token_line};
 
 use crate::rules::{KindText, Met};
 use crate::shown::{Shown, Text};
@@ -10,7 +9,6 @@ use lines::{BookName, Expected};
 use reader::Token;
 use states::Rules;
 use std::alloc::AllocError;
-use symbols::Event;
 
 // A new reader over a new book.
 pub fn new_reader(out: &mut String, book: BookName, edition: u32) -> Result<(), AllocError>
@@ -19,7 +17,7 @@ pub fn new_reader(out: &mut String, book: BookName, edition: u32) -> Result<(), 
     writeln!(out, "new book={book} edition={edition}")
 }
 
-// An accepted change of a rule, by the word of its command, and the new edition.
+// An accepted change of a rule, and the new edition. The word of the command is text, since it is printed as it stands.
 pub fn changed(out: &mut String, word: &str, rule: u32, edition: u32) -> Result<(), AllocError>
     ensures { Writes result out.old out.new (change_line word.now rule edition) }
 {
@@ -46,7 +44,7 @@ pub fn cursor(out: &mut String, place: usize, length: usize) -> Result<(), Alloc
     writeln!(out, "cursor place={place} length={length}")
 }
 
-// A token, by the word of the command that read or peeked it.
+// A token. The word of the command, which read or peeked it, is text, since it is printed as it stands.
 pub fn token<B: Book>(
     out: &mut String,
     word: &str,
@@ -75,13 +73,6 @@ pub fn last<S: Shown>(out: &mut String, place: usize, symbols: &[S]) -> Result<(
     let length = symbols.len();
     let text = Text(symbols);
     writeln!(out, "last place={place} length={length} text=\"{text}\"")
-}
-
-// The last token read over events.
-pub fn last_events(out: &mut String, place: usize, events: &[Event]) -> Result<(), AllocError>
-    ensures { Writes result out.old out.new (last_line shown_events place (length events.now) (map event_symbol.code events.now)) }
-{
-    last(out, place, events)
 }
 
 // A new walk of this edition.

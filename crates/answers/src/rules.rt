@@ -1,6 +1,7 @@
 // Rules that a text met, and their kinds.
 ghost use Rattle.std.specs.Prelude.{◌≡◌, ℕ, List, Some, decimal};
-ghost use Rattle.answers.specs.Texts.{kind_text, listed, members, met};
+ghost use Rattle.answers.specs.Texts.{kind_text, listed, met};
+ghost use Rattle.states.specs.Sets.{members};
 
 use books::Book;
 use states::Rules;
@@ -94,13 +95,13 @@ impl<I: Item> fmt::Display for Listed<I> {
     ghost output = { λ l. Some (listed (I.text l.item) (members l.rules)) };
 
     fn fmt<W: fmt::Write>(&self, f: &mut fmt::Formatter<W>) -> fmt::Result {
-        let mut rest = self.rules;
-        let Some(lowest) = rest.pop_lowest() else {
+        let mut rules = self.rules.members();
+        let Some(lowest) = rules.next() else {
             return write!(f, "-");
         };
         let first = self.item.of(lowest);
         write!(f, "{first}")?;
-        while let Some(rule) = rest.pop_lowest() {
+        for rule in rules {
             let next = self.item.of(rule);
             write!(f, ",{next}")?;
         }

@@ -50,9 +50,7 @@ impl<B: Book> Context<B> {
     pub(crate) fn token(&mut self, out: &mut String) -> Result<(), Fault>
         ensures { Ran result use_of ReadsToken (Wants wanting_cursor) self.old self.new out.old out.new }
     {
-        let Some(track) = &mut self.cursor else {
-            return Err(Fault::Malformed(Expected::Cursor));
-        };
+        let track = self.cursor.as_mut().ok_or(Expected::Cursor)?;
         let token = read_token(&mut self.reader, track);
         Ok(tell_token(out, "token", self.reader.book(), token)?)
     }

@@ -1,17 +1,16 @@
 // What is done with a text.
 ghost use Rattle.std.specs.Prelude.{◌≡◌, ◌-◌, map, take, drop};
-ghost use Rattle.symbols.specs.contracts.event.EventSymbol.TheImpl.{ghosts as event_symbol};
-ghost use Rattle.answers.specs.Texts.{last_line, shown_bytes, shown_events};
+ghost use Rattle.answers.specs.Texts.{last_line, parted};
 ghost use Rattle.passes.specs.Runs.{Ran};
 ghost use Rattle.contexts.specs.Uses.{Shows, Takes, Wants, wanting_cursor, wanting_for};
 ghost use Rattle.contexts.specs.Contexts.{use_of};
 
 use crate::context::{Context, Track};
+use answers::Shown;
 use books::Book;
 use lines::{Expected, Task};
 use passes::Fault;
 use std::alloc::Global;
-use symbols::Event;
 
 impl<B: Book> Context<B> {
     pub fn take(
@@ -34,23 +33,16 @@ impl<B: Book> Context<B> {
     }
 }
 
-impl<B: Book<Symbol = u8>> Context<B> {
-    // Shows the last token of a cursor over bytes.
+impl<B: Book> Context<B>
+where
+    B::Symbol: Shown,
+{
+    // Shows the last token of the cursor.
     pub fn last(&self, out: &mut String) -> Result<(), Fault>
-        ensures { Ran result use_of (Shows (last_line shown_bytes)) (Wants wanting_cursor) self.now self.now out.old out.new }
+        ensures { Ran result use_of (Shows (last_line (parted B.Symbol.Shown.between B.Symbol.Shown.one))) (Wants wanting_cursor) self.now self.now out.old out.new }
     {
         let track = self.cursor.as_ref().ok_or(Expected::Cursor)?;
         Ok(answers::last(out, track.from, track.part())?)
-    }
-}
-
-impl<B: Book<Symbol = Event>> Context<B> {
-    // Shows the last token of a cursor over events.
-    pub fn last_events(&self, out: &mut String) -> Result<(), Fault>
-        ensures { Ran result use_of (Shows (last_line shown_events)) (Wants wanting_cursor) self.now self.now out.old out.new }
-    {
-        let track = self.cursor.as_ref().ok_or(Expected::Cursor)?;
-        Ok(answers::last_events(out, track.from, track.part())?)
     }
 }
 

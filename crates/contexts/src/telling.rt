@@ -6,7 +6,7 @@ use books::{Book, Refusal};
 use reader::Token;
 use std::alloc::AllocError;
 
-// The token that was read or peeked, by the word of the command.
+// The token that was read or peeked. The answer begins with the word of the command.
 pub(crate) fn tell_token<B: Book>(
     out: &mut String,
     word: &str,
@@ -21,7 +21,7 @@ pub(crate) fn tell_token<B: Book>(
     }
 }
 
-// The new edition after a change of a rule, by the word of the command.
+// The new edition after a change of a rule. The answer begins with the word of the command.
 pub(crate) fn tell_change(
     out: &mut String,
     word: &str,

@@ -69,7 +69,7 @@ joined first (Some rest) = first ++ (32 ∷ rest)
 -- ── What stands behind a word, if anything, makes it a command ──
 
 -- nothing stands there
-abbrev pub Alone : Command → Option (List ℕ) → Command → Type 0
+abbrev pub Alone : {C : Type 0} → C → Option (List ℕ) → C → Type 0
 Alone k rest c = (c ≡ k) × (rest ≡ None)
 
 -- a text, as it stands
@@ -134,8 +134,8 @@ Decodable command.Last = Unit {0}
 Decodable (command.Order o) = Unit {0}
 
 -- a command that passes `makes` is answered, or that there is none
-abbrev pub Parses : (Command → Type 0) → Result Command Expected → Type 0
-Parses makes r = MatchResult r makes (λ _. (c : Command) → makes c → ⊥)
+abbrev pub Parses : {C : Type 0} → (C → Type 0) → Result C Expected → Type 0
+Parses {C} makes r = MatchResult r makes (λ _. (c : C) → makes c → ⊥)
 
 -- parsing answers a command that the line spells, or that no command is spelled by it
 abbrev pub Answers : List ℕ → Result Command Expected → Type 0

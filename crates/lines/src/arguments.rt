@@ -11,7 +11,7 @@ use crate::parts::{Parted, SPACE, part};
 
 // What stands behind a word: the bytes after the space, or nothing where there is no space.
 #[derive(Clone, Copy)]
-pub(crate) struct Behind<'a>(pub(crate) Option<&'a [u8]>);
+pub struct Behind<'a>(pub Option<&'a [u8]>);
 
 // A number, and what stands behind it.
 #[derive(Clone, Copy)]
@@ -22,8 +22,8 @@ pub(crate) struct Numbered<'a> {
 
 impl<'a> Behind<'a> {
     // Nothing stands there, not even a space, and the word alone makes the command.
-    pub(crate) fn alone(self, command: Command<'a>) -> Result<Command<'a>, Expected>
-        ensures { Parses (Alone command.entry (behind self.entry)) result }
+    pub fn alone<C: Copy>(self, command: C) -> Result<C, Expected>
+        ensures { Parses (Alone command (behind self.entry)) result }
     {
         match self.0 {
             None => Ok(command),
@@ -32,14 +32,14 @@ impl<'a> Behind<'a> {
     }
 
     // A text as it stands.
-    pub(crate) fn text(self) -> Result<&'a [u8], Expected>
+    pub fn text(self) -> Result<&'a [u8], Expected>
         ensures { MatchResult result (λ t. behind self.entry ≡ Just t.now) (λ _. (t : List ℕ) → behind self.entry ≢ Just t) }
     {
         self.0.ok_or(Expected::Text)
     }
 
     // Pairs of hex digits, as they stand.
-    pub(crate) fn hex_digits(self) -> Result<&'a [u8], Expected>
+    pub fn hex_digits(self) -> Result<&'a [u8], Expected>
         ensures { MatchResult result (λ d. (behind self.entry ≡ Just d.now) × Hex d.now) (λ _. (d : List ℕ) → behind self.entry ≡ Just d → Hex d → ⊥) }
     {
         match self.0 {
@@ -49,7 +49,7 @@ impl<'a> Behind<'a> {
     }
 
     // A number that stands alone.
-    pub(crate) fn number(self) -> Result<u32, Expected>
+    pub fn number(self) -> Result<u32, Expected>
         ensures { MatchResult result (λ n. (d : List ℕ) × (behind self.entry ≡ Just d) × Number d n) (λ _. (n : ℕ) (d : List ℕ) → behind self.entry ≡ Just d → Number d n → ⊥) }
     {
         let digits = self.0.ok_or(Expected::Number)?;

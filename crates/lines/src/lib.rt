@@ -9,9 +9,9 @@ mod parsing;
 mod parts;
 mod word;
 
-pub use arguments::saturated;
+pub use arguments::{Behind, saturated};
 pub use command::{BookName, Command, Expected, Order, Task};
 pub use decimals::{NoDecimal, decimal};
 pub use hex_pairs::{NoBytes, bytes_of, is_hex};
 pub use parsing::{is_skipped, parse};
-pub use parts::{NEWLINE, Parted, part};
+pub use parts::{NEWLINE, Parted, SPACE, part};

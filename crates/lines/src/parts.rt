@@ -9,7 +9,7 @@ use memchr::memchr;
 pub const NEWLINE: u8 = b'\n';
 
 // Parts a word from what follows it.
-pub(crate) const SPACE: u8 = b' ';
+pub const SPACE: u8 = b' ';
 
 // The bytes before the first mark, and those behind it, if there is a mark.
 #[derive(Clone, Copy)]

@@ -5,6 +5,7 @@ ghost use Rattle.passes.specs.declared.fault.Fault.TheVariants.{Malformed, NoMem
 
 use lines::{Expected, NoBytes};
 use std::alloc::AllocError;
+use std::fmt;
 
 #[derive(Clone, Copy, PartialEq, Eq, Debug)]
 pub enum Fault {
@@ -25,6 +26,15 @@ impl From<AllocError> for Fault {
     ghost from_gives = { λ _ r. r ≡ NoMemory };
 
     fn from(_error: AllocError) -> Fault {
+        Fault::NoMemory
+    }
+}
+
+// What is printed into memory fails only for want of it.
+impl From<fmt::Error> for Fault {
+    ghost from_gives = { λ _ r. r ≡ NoMemory };
+
+    fn from(_error: fmt::Error) -> Fault {
         Fault::NoMemory
     }
 }

@@ -86,6 +86,7 @@ impl<'s, S: LineRunner> Script<'s, S> {
                 self.malformed = true;
                 answers::malformed(errors, self.line, expected)
             }
+            // No `?` gives this error: `NoMemory` holds none, as it may come of digits, whose decoder hands none on.
             Err(Fault::NoMemory) => Err(AllocError),
         }
     }

@@ -1,11 +1,10 @@
 -- A line spells a command exactly where its first word is the command's, and what stands behind it are its arguments.
-use Rattle.std.proofs.Common.{◌≡◌, ℕ, ◌↔◌, List, ◌∷◌, ◌++◌, Some, None, Ok, Err, Option, Result, sym, refl, ap, ◌∙◌, subst, Bor, MatchResult}
+use Rattle.std.proofs.Common.{◌≡◌, ℕ, List, ◌∷◌, ◌++◌, Some, None, Option, sym, refl, ◌∙◌, subst, Bor}
 use Rattle.lines.specs.Parts.{Parts}
 use Rattle.lines.specs.Numerals.{Number}
 use Rattle.lines.specs.Hex.{Hex}
-use Rattle.scripts.specs.Lines.{Spells, Answers, NewReader}
+use Rattle.scripts.specs.Lines.{Spells, NewReader}
 use Rattle.scripts.specs.declared.command.BookName.{BookName}
-use Rattle.lines.specs.declared.command.Expected.{Expected}
 use Rattle.scripts.specs.declared.command.Command.{Command}
 use Rattle.scripts.specs.declared.command.Command.TheVariants.{New, Read, ReadHex, Kind, Tally, Edition, Note}
 use Rattle.lines.proofs.Parting.{one_parting}
@@ -34,17 +33,6 @@ abbrev line_of : Word → Option (List ℕ) → List ℕ
 line_of w None = spelling w
 line_of w (Some rest) = spelling w ++ (32 ∷ rest)
 
--- the line of a word spells what the word makes
-makes_spells : (w : Word) (rest : Option (List ℕ)) (c : Command) → Makes w rest c → Spells (line_of w rest) c
-makes_spells new rest c h = subst (Spells (line_of new rest)) (sym h.2) (h.1, ap (line_of new) h.3, h.4)
-makes_spells read rest c h = subst (Spells (line_of read rest)) (sym h.2) (ap (line_of read) (h.3 ∙ ap Some (sym h.4)))
-makes_spells readx rest c h =
-    subst (Spells (line_of readx rest)) (sym h.2) (ap (line_of readx) (h.3 ∙ ap Some (sym h.4.0)), subst Hex (sym h.4.0) h.4.1)
-makes_spells kind rest c h = subst (Spells (line_of kind rest)) (sym h.2) (h.1, ap (line_of kind) h.3, h.4)
-makes_spells tally rest c h = subst (Spells (line_of tally rest)) (sym h.0) (ap (line_of tally) h.1)
-makes_spells edition rest c h = subst (Spells (line_of edition rest)) (sym h.0) (ap (line_of edition) h.1)
-makes_spells note rest c h = subst (Spells (line_of note rest)) (sym h.0) (ap (line_of note) h.1)
-
 -- a line that spells a command is the line of a word that makes it
 record Made (line : List ℕ) (c : Command) : Type 0 where
   word : Word
@@ -65,10 +53,6 @@ line_parts : (line : List ℕ) (w : Word) (rest : Option (List ℕ)) → line �
 line_parts line w None e = (word_no_space w, e)
 line_parts line w (Some rest) e = (word_no_space w, e)
 
-parts_line : (line : List ℕ) (w : Word) (rest : Option (List ℕ)) → Parts 32 line (spelling w) rest → line ≡ line_of w rest
-parts_line line w None h = h.1
-parts_line line w (Some rest) h = h.1
-
 module _ (line first : List ℕ) (rest : Option (List ℕ)) (parts : Parts 32 line first rest) where
   -- the first word of a line that spells a command, and what makes it the command
   pub first_word : (c : Command) → Spells line c → (w : Word) × (first ≡ spelling w) × Makes w rest c
@@ -78,17 +62,7 @@ module _ (line first : List ℕ) (rest : Option (List ℕ)) (parts : Parts 32 li
       (m.word, s.0, subst (λ r. Makes m.word r c) (sym s.1) m.made)
 
   module _ (w : Word) (is : first ≡ spelling w) where
-    pub accepted : (c : Command) → Makes w rest c → Spells line c
-    accepted c h =
-        let whole = parts_line line w rest (subst (λ v. Parts 32 line v rest) is parts) in
-        subst (λ l. Spells l c) (sym whole) (makes_spells w rest c h)
-
     pub refused : ((c : Command) → Makes w rest c → ⊥) → (c : Command) → Spells line c → ⊥
     refused none c h =
         let f = first_word c h in
         none c (subst (λ v. Makes v rest c) (one_word f.0 w (sym f.1 ∙ is)) f.2)
-
-    -- what is answered of a word that stands alone
-    pub answered_alone : (k : Command) → ((c : Command) → Makes w rest c ↔ Alone k rest c) → (r : Result Command Expected) → MatchResult r (λ c. Alone k rest c) (λ _. rest ≡ None → ⊥) → Answers line r
-    answered_alone k same (Ok c) h = accepted c ((same c).1 h)
-    answered_alone k same (Err x) h = refused (λ c m. h ((same c).0 m).1)

@@ -79,6 +79,3 @@ book_letters Numbers = refl
 
 pub book_no_space : (b : BookName) → Lacks 32 (book_word b)
 book_no_space b = letters_no_space (book_word b) (book_letters b)
-
-pub book_utf8 : (b : BookName) → IsUtf8 (book_word b)
-book_utf8 b = letters_utf8 (book_word b) (book_letters b)

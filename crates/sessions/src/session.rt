@@ -165,7 +165,7 @@ impl Session {
             AnyContext::Numbers(context) => context.last(out),
             AnyContext::Templates(context) => context.last(out),
             AnyContext::Expressions(context) => context.last(out),
-            AnyContext::Events(context) => context.last_events(out),
+            AnyContext::Events(context) => context.last(out),
         }
     }
 }

@@ -1,6 +1,8 @@
-use Rattle.std.proofs.Common.{◌≡◌, ℕ, List, Some, sym, ap, ◌∙◌, subst}
-use Rattle.std.specs.Option.{option_map}
-use Rattle.std.proofs.lemmas.Result.{err_from_is_err_and}
+use Rattle.std.proofs.Common.{◌≡◌, ℕ, List, Some, sym, ◌∙◌, subst, rules}
+use Rattle.std.specs.Option.{option_copied}
+use Rattle.std.proofs.lemmas.Result.{MatchResult-from_err}
+use Rattle.lines.specs.Lines.{behind}
+use Rattle.lines.specs.Numerals.{Number32}
 use Rattle.scripts.specs.Lines.{NewReader}
 use Rattle.scripts.proofs.Books.{new_parts, parts_new}
 use Rattle.scripts.proofs.arguments.new_reader.Goals as goal
@@ -11,23 +13,15 @@ one_text u t e = cc
 
 pub returns-in_err-book : goal.returns-in_err-book
 returns-in_err-book c =
-    let p = err_from_is_err_and c.from_residual.result c.from_residual.ensures.1 in
-    rw p.1
-    (λ t a e h.
-    let k = subst (λ u. NewReader u a.0 a.1) (one_text c.in-Some.text.now t (sym (ap (option_map (λ x. x.now)) c.in-Some.is) ∙ e)) h in
-    let n = new_parts _ _ _ c.part.ensures a.0 a.1 k in
-    c.in_err-book.ensures a.0 n.1)
-
-pub returns-in_err-edition : goal.returns-in_err-edition
-returns-in_err-edition c =
-    let p = err_from_is_err_and c.from_residual-in_err-edition.result c.from_residual-in_err-edition.ensures.1 in
-    rw p.1
-    (λ t a e h.
-    let k = subst (λ u. NewReader u a.0 a.1) (one_text c.in-Some.text.now t (sym (ap (option_map (λ x. x.now)) c.in-Some.is) ∙ e)) h in
-    let n = new_parts _ _ _ c.part.ensures a.0 a.1 k in
-    c.in_err-edition.ensures n.0 a.1 n.2 n.3)
+    let whole : behind c.args.rest ≡ Some c.in_ok-text.text.now = search rules in
+    MatchResult-from_err c.from_residual-in_err-book.result _ _ c.from_residual-in_err-book.ensures.0
+    (λ _ t a e h.
+    let k = subst (λ u. NewReader u a.0 a.1) (one_text c.in_ok-text.text.now t (sym whole ∙ e)) h in
+    c.in_err-book.ensures a.0 (new_parts _ _ _ c.part.ensures a.0 a.1 k).1)
 
 pub returns : goal.returns
 returns c =
-    let h = c.in_ok-edition.ensures in
-    (c.in-Some.text.now, ap (option_map (λ x. x.now)) c.in-Some.is, parts_new _ _ _ c.part.ensures _ _ h.0 c.in_ok-book.ensures h.1 h.2)
+    let whole : behind c.args.rest ≡ Some c.in_ok-text.text.now = search rules in
+    let more : option_copied c.part.result.rest ≡ Some c.in_ok-digits.digits.now = search rules in
+    let is : Number32 c.in_ok-digits.digits.now c.in_ok-edition.edition = search rules in
+    (c.in_ok-text.text.now, whole, parts_new _ _ _ c.part.ensures _ _ c.in_ok-digits.digits.now c.in_ok-book.ensures more is)

@@ -1,34 +1,23 @@
-use Rattle.std.proofs.Common.{◌∷◌, ◌++◌, sym, ap, ◌∙◌, append-nil, rules}
+use Rattle.std.proofs.Common.{◌∷◌, ◌++◌, codes, sym, ap, ◌∙◌, rules}
 use Rattle.std.proofs.Output.{has_written_append, has_written_of_eq}
-use Rattle.answers.proofs.Listing.{behind_none, listed_first, listed_more, listed_none}
+use Rattle.states.proofs.OneByOne.{all_came}
+use Rattle.states.specs.Sets.{members}
+use Rattle.answers.specs.Texts.{listed, trailed}
+use Rattle.answers.proofs.Writing.{one_behind}
 use Rattle.answers.proofs.rules.ListedDisplay.fmt.Goals as goal
-
-pub returns-in_default-clause-writes : goal.returns-in_default-clause-writes
-returns-in_default-clause-writes g c = λ p ok.
-    has_written_of_eq _ _ _ _ _ (sym (listed_none (g.I.Item.text c.args.self.now.item) c.args.self.now.rules c.in_default.ensures.0)) (c.write.ensures.writes p ok)
-
-pub loop-rule-init : goal.loop-rule-init
-loop-rule-init g c = λ p.
-    let text = g.I.Item.text c.args.self.now.item in
-    record {
-      done = text c.in-Some.lowest;
-      wrote = search rules;
-      is = listed_first text c.args.self.now.rules c.pop_lowest.new.self c.in-Some.lowest c.in-Some.ensures;
-    }
 
 pub loop-rule-preserved : goal.loop-rule-preserved
 loop-rule-preserved g c = λ p.
     let text = g.I.Item.text c.args.self.now.item in
-    let n = c.in-Some-pop_lowest.rule in
-    let i = c.loop-rule.invariant p in
-    record {
-      done = i.done ++ (44 ∷ text n);
-      wrote = has_written_append _ _ _ _ (44 ∷ text n) _ i.wrote (search rules);
-      is = listed_more text i.done c.loop-rule.rest _ n c.in-Some-pop_lowest.ensures ∙ i.is;
-    }
+    let n = c.in-Some-rule.rule in
+    has_written_of_eq _ _ _ _ _ (one_behind (codes ",") text (text c.in-Some.lowest) c.loop-rule.yielded n)
+    (has_written_append _ _ _ _ (44 ∷ text n) _ (c.loop-rule.invariant p) (search rules))
 
 pub returns-clause-writes : goal.returns-clause-writes
 returns-clause-writes g c = λ p ok.
     let text = g.I.Item.text c.args.self.now.item in
-    let i = c.loop-rule.invariant p in
-    has_written_of_eq _ _ _ _ _ (sym (append-nil i.done) ∙ ap (λ r. i.done ++ r) (sym (behind_none text c.loop-rule.rest c.in_default-pop_lowest.ensures.0)) ∙ i.is) i.wrote
+    let first = c.in-Some.lowest in
+    let rest = c.next.new.self in
+    let came = all_came rest.rest c.into_iter-rule-iterator.result (ap (λ i. i.rest) c.into_iter-rule-iterator.ensures.into_iter_gives) c.loop-rule.yielded _ c.loop-rule.yielded_by _ _ c.in-None.is c.next-in-loop-rule.ensures.steps in
+    let whole = ap members (sym c.members-rules.ensures) ∙ c.in-Some.ensures.steps in
+    has_written_of_eq _ _ _ _ _ (ap (λ xs. text first ++ trailed (codes ",") text xs) came ∙ ap (listed text) (sym whole)) (c.loop-rule.invariant p)

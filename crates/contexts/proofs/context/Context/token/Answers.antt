@@ -1,4 +1,4 @@
-use Rattle.std.proofs.Common.{Some, codes, ap}
+use Rattle.std.proofs.Common.{Some, codes, sym, ap, ◌∙◌}
 use Rattle.std.specs.Option.{option_map}
 use Rattle.reader.specs.View.{view}
 use Rattle.contexts.specs.Contexts.{marker_of, use_of}
@@ -16,8 +16,8 @@ returns g c =
       token_text (codes "token") (model c.book.result.now).meaning.kind t,
       c.in_ok-tell_token.ensures,
       record {
-        cursor = marker_of code c.in-Some.track;
-        here = ap (option_map (marker_of code)) c.in-Some.is;
+        cursor = marker_of code c.in_ok-track.track.now;
+        here = ap (option_map (marker_of code)) (sym c.as_mut.ensures.value ∙ ap (option_map (λ m. m.now)) c.in_ok-track.ensures.ok_part);
         result = t;
         reader = v;
         does = h.does;

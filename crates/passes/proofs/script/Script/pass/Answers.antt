@@ -1,4 +1,4 @@
-use Rattle.std.proofs.Common.{[], string_bytes, sym, refl, ap, ◌∙◌, subst, inl, inr, append-nil}
+use Rattle.std.proofs.Common.{[], string_bytes, sym, refl, ap, ◌∙◌, inl, inr, append-nil}
 use Rattle.std.proofs.lemmas.Bool.{both_ways}
 use Rattle.answers.specs.Texts.{malformed_line}
 use Rattle.passes.proofs.Steps.{on_ok_map}
