@@ -20,7 +20,7 @@ pub enum Sight {
     Walking {
         edition: u32,
     },
-    // a refusal, by the numbers that callers are told
+    // a refusal, by the numbers that callers are told, as in `Told`
     Refused {
         number: u8,
         layer: u8,

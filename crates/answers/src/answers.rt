@@ -1,4 +1,5 @@
-// One line for each answer, appended to what is there. Each fails only for want of memory.
+// One line for each answer, appended to what is there. Each fails only for want of memory. Those of a name and a number are calls
+// of their own, one line each, so that callers choose the answer by name and not by its text.
 ghost use Rattle.std.specs.Prelude.{map, length, codes};
 ghost use Rattle.answers.specs.Texts.{Writes, change_line, cursor_line, feed_line, finish_line, kind_line, last_line, malformed_line, new_line, numbered, parted, read_line, refused_line, token_line};
 
@@ -17,7 +18,7 @@ pub fn new_reader(out: &mut String, book: BookName, edition: u32) -> Result<(), 
     writeln!(out, "new book={book} edition={edition}")
 }
 
-// An accepted change of a rule, and the new edition. The word of the command is text, since it is printed as it stands.
+// An accepted change of a rule, and the new edition. The word of the command is any text: an enum of words would ask more of callers.
 pub fn changed(out: &mut String, word: &str, rule: u32, edition: u32) -> Result<(), AllocError>
     ensures { Writes result out.old out.new (change_line word.now rule edition) }
 {
@@ -44,7 +45,7 @@ pub fn cursor(out: &mut String, place: usize, length: usize) -> Result<(), Alloc
     writeln!(out, "cursor place={place} length={length}")
 }
 
-// A token. The word of the command, which read or peeked it, is text, since it is printed as it stands.
+// A token. The word of the command, which read or peeked it, is any text: an enum of words would ask more of callers.
 pub fn token<B: Book>(
     out: &mut String,
     word: &str,

@@ -84,7 +84,8 @@ impl fmt::Display for KindText {
     }
 }
 
-// The items of rules in rising order, with commas between them, or a dash where there is no rule.
+// The items of rules in rising order, with commas between them, or a dash where there is no rule. Its loop is that of `Text` over a
+// set's members: one over any iterator would have to be told what that yields, which is longer than the loop.
 #[derive(Drop)]
 struct Listed<I> {
     rules: Rules,

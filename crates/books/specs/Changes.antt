@@ -1,7 +1,6 @@
 -- What adding and deleting a rule do to a book's meaning.
-use Rattle.std.specs.Prelude.{◌≡◌, ℕ, Bool, true, false, cond, not, ◌↔◌, List, [], ◌∷◌, is_some, Some, None, Option, ◌≢◌, nat_lt}
-use Rattle.states.specs.Sets.{State}
-use Rattle.states.specs.Sets.{has}
+use Rattle.std.specs.Prelude.{◌≡◌, ℕ, Bool, true, false, cond, not, ◌↔◌, List, [], ◌∷◌, is_some, Some, None, Option, Result, MatchResult, ◌≢◌, nat_lt}
+use Rattle.states.specs.Sets.{State, has}
 use Rattle.books.specs.Meaning.{Meaning, Model, InForce, is, touches}
 use Rattle.books.specs.declared.faults.BookFault.{BookFault}
 use Rattle.books.specs.declared.faults.BookFault.TheVariants.{Number, Kind, Taken, Absent}
@@ -38,6 +37,10 @@ pub record Changed (R : Meaning → Meaning → Type 0) (a b : Model) : Type 0 w
   pub meaning : R a.meaning b.meaning
   pub note : b.note ≡ a.note
   pub noted : b.noted ≡ a.noted
+
+-- The change R of a book's meaning, as `model` tells it, is accepted, or it is refused and a stays as it is.
+abbrev pub ChangesUnless : {B E T : Type 0} → Result T E → (Meaning → Meaning → Type 0) → (B → Model) → B → B → Type 0
+ChangesUnless refused R model a b = MatchResult refused (λ _. Changed R (model a) (model b)) (λ _. b ≡ a)
 
 -- ---- why a change is refused
 

@@ -3,3 +3,4 @@ pub mod Meaning
 pub mod Changes
 pub mod Refusals
 pub mod Texts
+pub mod Kinds

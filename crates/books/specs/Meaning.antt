@@ -1,9 +1,7 @@
 -- What a rule book means: rules in force, the positions that each owns, and the states that symbols lead through.
 use Rattle.std.specs.Prelude.{◌≡◌, ℕ, ◌+◌, ◌<◌, min, Bool, true, false, ◌&&◌, is_some, Some, None, Option, ◌==◌}
-use Rattle.states.specs.Sets.{State}
-use Rattle.states.specs.Sets.{Rules}
+use Rattle.states.specs.Sets.{State, Rules, has, has_rule}
 use Rattle.states.specs.Words.{some}
-use Rattle.states.specs.Sets.{has, has_rule}
 
 pub record Meaning : Type 0 where
   -- a rule's kind; none where the rule is not in force

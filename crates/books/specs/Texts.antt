@@ -1,7 +1,6 @@
 -- What a text means to a book. A text is a list of codes.
 use Rattle.std.specs.Prelude.{ℕ, List, [], ◌∷◌}
-use Rattle.states.specs.Sets.{State}
-use Rattle.states.specs.Sets.{Rules}
+use Rattle.states.specs.Sets.{State, Rules}
 use Rattle.books.specs.Meaning.{Meaning}
 
 -- the state that a text leads to from s, by a rule for the next state

@@ -17,20 +17,23 @@ pub struct Rule<const RULES: usize> {
     pub ghost small: { kind < 4096 },
 }
 
-// The kinds of the rules in force in a book whose rules have numbers below `RULES`, which is at most 64.
+// The kinds of the rules in force in a book whose rules have numbers below `RULES`, which is at most 64. It has no model: a book
+// promises that a refused call leaves it as it was, every field, and callers see the kinds by `kind_in`.
 #[derive(Drop)]
 pub struct Kinds<const RULES: usize> {
-    // by rule: its kind, if it is in force
+    // by rule, a number below `RULES`, so that an array is the map: its kind, if it is in force
     by_rule: [Option<u16>; RULES],
     pub ghost size: { (length by_rule ≡ RULES) × (RULES ≤ 64) },
     pub ghost small: { (r k : ℕ) → slice_index_or by_rule r None ≡ Some k → k < 4096 },
 }
 
 impl<const RULES: usize> Kinds<RULES> {
+    ghost use Rattle.books.specs.Kinds.{IsRule, kind_in};
+
     // No rule is in force.
     pub fn new() -> Kinds<RULES>
         requires { RULES ≤ 64 }
-        ensures { (r : ℕ) → slice_index_or result.by_rule r None ≡ None }
+        ensures { (r : ℕ) → kind_in result r ≡ None }
     {
         Kinds {
             by_rule: [None; RULES],
@@ -39,15 +42,15 @@ impl<const RULES: usize> Kinds<RULES> {
 
     // The kind of a rule, or none where the rule is not in force.
     pub fn get(&self, rule: u32) -> Option<u16>
-        ensures { result ≡ slice_index_or self.now.by_rule rule None }
+        ensures { result ≡ kind_in self.now rule }
     {
         self.by_rule.get(rule as usize).copied().flatten()
     }
 
     // The rule, if its number and kind are in range and no rule of this number is in force.
     pub fn new_rule(&self, rule: u32, kind: u32) -> Result<Rule<RULES>, BookFault>
-        ensures answer { result_err result ≡ first_no (new_rule RULES (slice_index_or self.now.by_rule rule None) rule kind) }
-        ensures rule { IfOk result (λ it. (it.number ≡ rule) × (it.kind ≡ kind)) }
+        ensures answer { result_err result ≡ first_no (new_rule RULES (kind_in self.now rule) rule kind) }
+        ensures rule { IfOk result (IsRule rule kind) }
     {
         if rule as usize >= RULES {
             return Err(BookFault::Number);
@@ -66,8 +69,8 @@ impl<const RULES: usize> Kinds<RULES> {
 
     // The rule, if it is in force.
     pub fn in_force(&self, rule: u32) -> Result<Rule<RULES>, BookFault>
-        ensures answer { result_err result ≡ absence (slice_index_or self.now.by_rule rule None) }
-        ensures rule { IfOk result (λ it. (it.number ≡ rule) × (slice_index_or self.now.by_rule rule None ≡ Some it.kind)) }
+        ensures answer { result_err result ≡ absence (kind_in self.now rule) }
+        ensures rule { IfOk result (λ it. (it.number ≡ rule) × (kind_in self.now rule ≡ Some it.kind)) }
     {
         let kind = self.get(rule).ok_or(BookFault::Absent)?;
         Ok(Rule {

@@ -37,8 +37,8 @@ impl From<OutOfRange> for Refusal {
     }
 }
 
-// A refusal in numbers, as users are told it: both its number and its layer (1 for the reader, 2 for the book, 3 for a command)
-// stand as numbers in answers.
+// A refusal in numbers, as answers print it: its number, and its layer (1 for the reader, 2 for the book, 3 for a command). The
+// enums are `Refusal` and `BookFault`; here both stay numbers, since the fields are public, and an enum would ask more of callers.
 #[derive(Clone, Copy, PartialEq, Eq, Debug)]
 pub struct Told {
     pub number: u8,
@@ -95,7 +95,7 @@ impl Cause {
 }
 
 impl BookFault {
-    // The fault in numbers.
+    // The fault in numbers, case by case as the definition has it.
     pub fn tell(self) -> Told
         ensures { result ≡ book_told self }
     {
@@ -112,7 +112,7 @@ impl BookFault {
 }
 
 impl Refusal {
-    // The refusal in numbers.
+    // The refusal in numbers, case by case as the definition has it.
     pub fn tell(self) -> Told
         ensures { result ≡ told self }
     {

@@ -13,8 +13,7 @@ use books::ChangingBook;
 use std::alloc::AllocError;
 
 impl<B: ChangingBook> Context<B> {
-    // Adds a rule by its bytes. `word` is the word of the command, add or code: text, since the answer begins with it as it
-    // stands, and nothing else depends on which it is.
+    // Adds a rule by its bytes. `word` is the word of the command, add or code: any text, since an enum would ask more of callers.
     pub fn add(
         &mut self,
         word: &str,

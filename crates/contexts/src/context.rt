@@ -4,8 +4,9 @@ ghost use Rattle.std.specs.Prelude.{◌≤◌, vec_len};
 use books::Book;
 use reader::{Reader, Walk};
 
-// A text, a place in it, and where its last token begins and ends. It owns its text, and a reader's cursor is made over it
-// for each call: no struct can hold both a text and a cursor that borrows it.
+// A text, a place in it, and where its last token begins and ends, in two numbers as a cursor has them. It owns its text, and a reader's cursor is made over it
+// for each call: no struct can hold both a text and a cursor that borrows it, and a cursor over any kind of text would bring a type
+// parameter for it into each contract of the reader.
 #[derive(Drop)]
 pub(crate) struct Track<S> {
     pub(crate) text: Vec<S>,

@@ -12,6 +12,7 @@ impl<B: Noted> Context<B> {
     pub fn obey(&mut self, order: Order, out: &mut String) -> Result<(), Fault>
         ensures { Ran result use_of (Obeys order) (Wants (wanting order)) self.old self.new out.old out.new }
     {
+        // A match, and no table of closures: an order is data, which a line spells, and each arm calls with arguments of its own.
         match order {
             Order::Token => self.token(out),
             Order::Peek => self.peek(out),

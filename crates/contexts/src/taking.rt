@@ -22,6 +22,7 @@ impl<B: Book> Context<B> {
     ) -> Result<(), Fault>
         ensures { Ran result use_of (Takes task (map B.Symbol.Symbol.code text.now)) (Wants (wanting_for task)) self.old self.new out.old out.new }
     {
+        // A match, and no closure: a task is data, which a line spells, and what each arm needs of the text differs.
         match task {
             Task::Read => Ok(self.read(text, out)?),
             Task::Cursor(place) => {

@@ -25,9 +25,7 @@ impl<B: Book> Context<B> {
     pub(crate) fn feed(&mut self, text: &[B::Symbol], out: &mut String) -> Result<(), Fault>
         ensures { Ran result use_of (Feeds (map B.Symbol.Symbol.code text.now)) (Wants wanting_walk) self.old self.new out.old out.new }
     {
-        if self.walk.is_none() {
-            return Err(Fault::Malformed(Expected::Walk));
-        }
+        self.walk.as_ref().ok_or(Expected::Walk)?;
         for symbol in text {
             if !self.feed_next(*symbol, out)? {
                 return Ok(());
@@ -36,7 +34,7 @@ impl<B: Book> Context<B> {
         Ok(())
     }
 
-    // Feeds the walk with one symbol, and says whether it went on.
+    // Feeds the walk with one symbol, and says whether it went on: a truth value, since its loop asks for no more.
     fn feed_next(&mut self, symbol: B::Symbol, out: &mut String) -> Result<bool, Fault>
         ensures { MatchResult result
             (λ on. Answers (FeedsNext (B.Symbol.Symbol.code symbol) on (use_of self.old) (use_of self.new)) (string_bytes out.old) (string_bytes out.new))

@@ -3,11 +3,9 @@ ghost use Rattle.std.specs.Prelude.{◌≡◌, MatchOption};
 ghost use Rattle.event_words.specs.Words.{Named, Names, NamesWords, Spells, named};
 ghost use Rattle.event_words.specs.declared.words.NoEvents.TheVariants.{NoMemory, OutOfRange};
 
-use lines::{Parted, part, saturated};
+use lines::{Parted, SPACE, part, saturated};
 use std::alloc::{AllocFailed, Global};
 use symbols::Event;
-
-const SPACE: u8 = b' ';
 
 const POINT: u8 = b'.';
 

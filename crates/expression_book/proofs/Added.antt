@@ -6,6 +6,7 @@ use Rattle.states.specs.Sets.{State, has, has_rule, size}
 use Rattle.states.proofs.Digits.{tally_same}
 use Rattle.states.proofs.Members.{member_below}
 use Rattle.books.specs.Changes.{Added}
+use Rattle.books.proofs.Touching.{fails}
 use Rattle.expressions.specs.Expression.{Plain, Labelled}
 use Rattle.expressions.specs.Positions.{Owns, Takes, Follow, followed_by}
 use Rattle.expressions.specs.Rules.{only, Means, Additive, live}
@@ -16,7 +17,7 @@ use Rattle.expression_book.specs.declared.table.Table.{Table}
 use Rattle.expression_book.specs.Rows.{row, takes, leads}
 use Rattle.expression_book.specs.Tables.{table_meaning, owns}
 use Rattle.expression_book.specs.Building.{Any, taken, Puts}
-use Rattle.expression_book.specs.Laws.{in_force, rule_at, follows_at, mine, live_is, next_by, ended_by, fails}
+use Rattle.expression_book.specs.Laws.{in_force, rule_at, follows_at, mine, live_is, next_by, ended_by}
 use Rattle.expression_book.proofs.Removed.{kind_here}
 use Rattle.expression_book.proofs.Alike.{Alike, elsewhere, either_way}
 

@@ -7,11 +7,12 @@ use Rattle.states.proofs.Members.{same_members, same_rules}
 use Rattle.books.specs.Meaning.{touches}
 use Rattle.books.specs.Changes.{Elsewhere}
 use Rattle.books.specs.Texts.{after, meets}
+use Rattle.books.proofs.Touching.{touched}
 use Rattle.expression_book.specs.declared.row.Row.{Row}
 use Rattle.expression_book.specs.declared.table.Table.{Table}
 use Rattle.expression_book.specs.Rows.{row, takes}
 use Rattle.expression_book.specs.Tables.{table_meaning, owns}
-use Rattle.expression_book.specs.Laws.{rule_at, follows_at, touched, mine, owner_from, next_by, ended_by}
+use Rattle.expression_book.specs.Laws.{rule_at, follows_at, mine, owner_from, next_by, ended_by}
 
 -- the tables hold the same at position p
 pub record Same (a b : Table) (p : ℕ) : Type 0 where

@@ -46,6 +46,17 @@ pub counted_asked : (last : ℕ) (m : Meaning) (bytes : List ℕ) (s : Result �
 counted_asked last m bytes s short is =
     ap (room_for m) is ∙ sym (ap (λ (x : Bool). cond x (room_for m (counted (read_all last bytes))) (Some Length)) (le-leb (length bytes) 1024 short))
 
+-- every question about the call itself gets a yes
+pub all_asked : (last : ℕ) (m : Meaning) (r k : ℕ) (bytes : List ℕ) (s : Result ℕ CommandFault) → r ≤ 63 → k ≤ 4095 → is_some (m.kind r) ≡ false → length bytes ≤ 1024
+    → s ≡ counted (read_all last bytes) → room_for m s ≡ refusal last m r k bytes
+all_asked last m r k bytes s number kind free short is =
+    let inner = room_for m (counted (read_all last bytes)) in
+    ap (room_for m) is
+    ∙ sym (ap (λ (x : Bool). cond x (cond (leb k 4095) (cond (is_some (m.kind r)) (Some Taken) (cond (leb (length bytes) 1024) inner (Some Length))) (Some Kind)) (Some Number)) (le-leb r 63 number)
+    ∙ ap (λ (x : Bool). cond x (cond (is_some (m.kind r)) (Some Taken) (cond (leb (length bytes) 1024) inner (Some Length))) (Some Kind)) (le-leb k 4095 kind)
+    ∙ ap (λ (x : Bool). cond x (Some Taken) (cond (leb (length bytes) 1024) inner (Some Length))) free
+    ∙ ap (λ (x : Bool). cond x inner (Some Length)) (le-leb (length bytes) 1024 short))
+
 -- there is room for so many symbols and the end, or there is none
 pub room_yes : (m : Meaning) (n : ℕ) → live m + needed n ≤ 256 → room_for m (Ok n) ≡ None
 room_yes m n h = ap (λ (x : Bool). cond x None (Some Full)) (le-leb (live m + needed n) 256 h)

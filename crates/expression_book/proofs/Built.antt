@@ -1,6 +1,7 @@
 -- Each command keeps what is true between two commands. Assumes nothing.
 use Rattle.std.proofs.Common.{◌≡◌, ℕ, Bool, true, false, not, ◌&&◌, ◌||◌, eqb, ◌⊎◌, List, [], ◌∷◌, map, sym, refl, ap, ◌∙◌, ap₂, inl, inr}
 use Rattle.std.proofs.lemmas.Bool.{cases_eq, cases_Bool, both_ways, and_from, and_left, and_right, eq-eqb, ne_eqb, or_left, or_right}
+use Rattle.std.proofs.Math.Bool.{or-false}
 use Rattle.states.specs.Sets.{State, has}
 use Rattle.states.proofs.Members.{has_nothing}
 use Rattle.expressions.specs.Expression.{empty, symbol, join, either, star, plus, optional, Labelled, Plain, plain}
@@ -14,7 +15,7 @@ use Rattle.expression_book.specs.declared.table.Table.{Table}
 use Rattle.expression_book.specs.Rows.{row, takes}
 use Rattle.expression_book.specs.Parts.{Shows}
 use Rattle.expression_book.specs.Building.{Holds, Gives, Links, AllShow, Separate, Tabled, taken, Beside, Building}
-use Rattle.expression_book.specs.Laws.{or_false, rule_at, follows_at}
+use Rattle.expression_book.specs.Laws.{rule_at, follows_at}
 use Rattle.expression_book.proofs.Grown.{link_rule, link_codes, link_follow}
 use Rattle.expression_book.proofs.Pieces.{tabled_at, linked, tabled_empty, tabled_symbol, tabled_join, tabled_either, tabled_star, tabled_plus, tabled_optional, separate_symbol, separate_two}
 
@@ -84,7 +85,7 @@ module _ (a : Table) (r : ℕ) (codes : CodeRange) (at : ℕ) (t t' : Table) (gi
   here_taken = and_from _ _ (gives.live at ∙ or_right (has t.live at) _ (eq-eqb at at refl)) (ap not not_live)
 
   other_taken : (p : ℕ) → (p ≡ at → ⊥) → taken a t' p ≡ taken a t p
-  other_taken p d = ap (λ (x : Bool). x && not (has a.live p)) (gives.live p ∙ ap (λ (y : Bool). has t.live p || y) (ne_eqb p at d) ∙ or_false (has t.live p))
+  other_taken p d = ap (λ (x : Bool). x && not (has a.live p)) (gives.live p ∙ ap (λ (y : Bool). has t.live p || y) (ne_eqb p at d) ∙ or-false (has t.live p))
 
   -- at the position given, and elsewhere
   at_place : (f g : ℕ → Bool) → f at ≡ g at → ((p : ℕ) → (p ≡ at → ⊥) → f p ≡ g p) → (p : ℕ) → f p ≡ g p
@@ -108,7 +109,7 @@ module _ (a : Table) (r : ℕ) (codes : CodeRange) (at : ℕ) (t t' : Table) (gi
   give_codes p c =
       at_place (λ x. codes_new a t' x c) (λ x. (eqb at x && contains codes c) || codes_new a t x c)
       (ap₂ (λ (y : Bool) (v : Row). y && takes v c) here_taken gives.fresh
-      ∙ sym (ap₂ (λ (x y : Bool). (x && contains codes c) || y) (eq-eqb at at refl) (and_left _ (takes (row t.rows at) c) not_taken) ∙ or_false (contains codes c)))
+      ∙ sym (ap₂ (λ (x y : Bool). (x && contains codes c) || y) (eq-eqb at at refl) (and_left _ (takes (row t.rows at) c) not_taken) ∙ or-false (contains codes c)))
       (λ x d. ap₂ (λ (y : Bool) (v : Row). y && takes v c) (other_taken x d) (gives.kept x d)
       ∙ sym (ap (λ (y : Bool). (y && contains codes c) || codes_new a t x c) (other_than x d))) p
 

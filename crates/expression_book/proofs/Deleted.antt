@@ -2,12 +2,14 @@
 use Rattle.std.proofs.Common.{◌≡◌, ℕ, Bool, true, false, cond, not, ◌&&◌, List, get_or, is_some, Some, None, Option, sym, ap, ◌∙◌}
 use Rattle.std.proofs.lemmas.List.{get_or-set_other}
 use Rattle.std.proofs.lemmas.Bool.{both_ways, and_right}
+use Rattle.std.proofs.Math.Bool.{and-true}
 use Rattle.states.specs.Sets.{has, has_rule}
 use Rattle.books.specs.Changes.{Deleted}
 use Rattle.books.specs.Texts.{after, meets}
+use Rattle.books.proofs.Touching.{fails}
 use Rattle.expression_book.specs.declared.table.Table.{Table}
 use Rattle.expression_book.specs.Tables.{table_meaning, owns, Removes}
-use Rattle.expression_book.specs.Laws.{and_true, fails, in_force, rule_at, mine, owner_from, ended_by, rule_below}
+use Rattle.expression_book.specs.Laws.{in_force, rule_at, mine, owner_from, ended_by, rule_below}
 use Rattle.expression_book.proofs.Removed.{kind_here}
 use Rattle.expression_book.proofs.Alike.{Alike, elsewhere}
 
@@ -26,7 +28,7 @@ module _ (r : ℕ) (a b : Table) (force : in_force a r ≡ true) (gone : Removes
   lost x p e = and_right x _ (ap not e)
 
   stays : (x : Bool) (p : ℕ) → owns a r p ≡ false → (x && not (owns a r p)) ≡ x
-  stays x p e = ap (λ (y : Bool). x && not y) e ∙ and_true x
+  stays x p e = ap (λ (y : Bool). x && not y) e ∙ and-true x
 
   pub delete_alike : Alike r a b
   delete_alike = record {

@@ -1,12 +1,13 @@
 -- A table that grows: a position given, positions linked. Its invariants, and the counts. Assumes nothing.
 use Rattle.std.proofs.Common.{◌≡◌, ℕ, ◌+◌, ◌<◌, Bool, true, false, not, ◌&&◌, ◌||◌, eqb, ltb, List, sym, refl, ap, ◌∙◌, ap₂, inl, inr, arith}
 use Rattle.std.proofs.lemmas.Bool.{cases_eq, cases_Bool, both_ways, and_cases, or_right, eq-eqb, ne_eqb, lt-ltb, not-false}
+use Rattle.std.proofs.Math.Bool.{or-false}
 use Rattle.states.specs.Sets.{State, has, size}
 use Rattle.states.proofs.Digits.{tally_all, tally_less}
 use Rattle.expression_book.specs.declared.table.Table.{Table}
 use Rattle.expression_book.specs.declared.row.Row.{Row}
 use Rattle.expression_book.specs.Rows.{row, Gains}
-use Rattle.expression_book.specs.Laws.{or_false, rule_at, follows_at}
+use Rattle.expression_book.specs.Laws.{rule_at, follows_at}
 
 -- ---- a free position
 
@@ -64,5 +65,5 @@ module _ (a : Table) (rows : List Row) (last first : State) (linked : (p : ℕ) 
   pub link_follow : (p q : ℕ) → has (row rows p).follow q ≡ (follows_at a p q || (has last p && has first q))
   link_follow p q = elim (cases_Bool (has last p)) [
     | inl e ↦ (linked p e).follow q ∙ ap (λ (x : Bool). follows_at a p q || (x && has first q)) (sym e)
-    | inr e ↦ ap (λ (v : Row). has v.follow q) (kept p e) ∙ sym (ap (λ (x : Bool). follows_at a p q || (x && has first q)) e ∙ or_false (follows_at a p q))
+    | inr e ↦ ap (λ (v : Row). has v.follow q) (kept p e) ∙ sym (ap (λ (x : Bool). follows_at a p q || (x && has first q)) e ∙ or-false (follows_at a p q))
   ]

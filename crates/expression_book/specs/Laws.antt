@@ -8,6 +8,7 @@ use Rattle.states.specs.Sets.{State, Rules, has, has_rule, set_of, rules_of}
 use Rattle.states.specs.Words.{some, Gathers}
 use Rattle.states.proofs.Members.{has_set_of, has_rule_rules_of, member_below, some_member, rules_above, same_members, same_rules}
 use Rattle.books.specs.Meaning.{Meaning, Lawful, Live, touches, is}
+use Rattle.books.proofs.Touching.{touched, fails}
 use Rattle.expression_book.specs.declared.table.Table.{Table}
 use Rattle.expression_book.specs.Rows.{row, takes, leads}
 use Rattle.expression_book.specs.Tables.{table_meaning}
@@ -22,24 +23,6 @@ rule_at t p = (row t.rows p).rule
 -- q follows p
 abbrev pub follows_at : Table → ℕ → ℕ → Bool
 follows_at t p q = has (row t.rows p).follow q
-
-pub and_true : (x : Bool) → (x && true) ≡ x
-and_true true = refl
-and_true false = refl
-
-pub or_false : (x : Bool) → (x || false) ≡ x
-or_false true = refl
-or_false false = refl
-
--- what fails of the second fails of the first
-pub fails : (x y : Bool) → (x ≡ true → y ≡ true) → y ≡ false → x ≡ false
-fails true y h e = absurd (both_ways y e (h refl))
-fails false y h e = refl
-
--- s holds a position of rule r
-pub touched : (m : Meaning) (r : ℕ) (s : State) → Decides (touches m r s) ((p : ℕ) × (has s p ≡ true) × (is (m.owner p) r ≡ true))
-unfolding touches
-touched m r s = some_member s (λ p. is (m.owner p) r)
 
 module _ (t : Table) where
   -- ---- owners

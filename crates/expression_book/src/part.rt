@@ -72,7 +72,7 @@ impl Part {
     }
 }
 
-// A place of a stack that holds no part is blank.
+// A place of a stack that holds no part is blank. By hand, since a set has no `Default` to derive one from.
 impl Default for Part {
     fn default() -> Part {
         Part::empty()

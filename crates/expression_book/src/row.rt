@@ -16,7 +16,7 @@ pub(crate) struct Row {
 }
 
 impl Row {
-    // The row of a position that no rule owns. It takes no code, so it is not made of its fields' defaults.
+    // The row of a position that no rule owns; its rule is any, since `live` says of all positions in one set which are owned. No derived `Default`: that would be a range from 0 to 0, which takes the code 0.
     pub(crate) fn blank() -> Row
         ensures { result ≡ blank }
     {

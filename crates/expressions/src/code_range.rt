@@ -20,7 +20,7 @@ impl CodeRange {
         }
     }
 
-    // No code.
+    // No code: an empty range, as the library's ranges may be, so that a step asks each position for no Option.
     pub fn none() -> CodeRange
         ensures { result ≡ none }
     {

@@ -10,7 +10,8 @@ use books::{Cause, CommandFault};
 pub const MOST: usize = 40;
 
 // Checks a run of commands, over codes up to the last one, and answers how many symbols its expression has. A run that
-// spells none is refused with the cause and the offset of the first command that a question stops.
+// spells none is refused with the cause and the offset of the first command that a question stops. The last code is no part of the
+// run: the same bytes may be checked over another kind of symbol.
 pub fn check(bytes: &[u8], last: u16) -> Result<usize, CommandFault>
     ensures answer { result ≡ counted (read_all last bytes.now) }
     ensures judged { Judged last bytes.now result }
@@ -18,6 +19,8 @@ pub fn check(bytes: &[u8], last: u16) -> Result<usize, CommandFault>
     let mut rest = bytes;
     let mut waiting = 0;
     let mut symbols = 0;
+    // slice patterns take a command and what is behind it apart: the project's form for a run. The expression book's builder has
+    // the loop too, over the expressions that wait themselves: an iterator over commands would count them beside it
     while let [letter, behind @ ..] = rest {
         let place = bytes.len() - rest.len();
         let (command, tail) = step(*letter, behind, last, waiting).map_err(|cause| CommandFault {
@@ -48,7 +51,7 @@ pub fn step<'a>(
 ) -> Result<(Command, &'a [u8]), Cause>
     ensures { Decodes last waiting letter behind.now result }
 {
-    // by letter, so that the questions and the commands stand in one table
+    // by letter, so that the questions and the commands stand in one table: the project's form, in which the letter stays a byte
     let (operands, rest) = operands(letter, behind)?;
     match (letter, operands) {
         (b'C' | b'R', Some(codes)) if !codes.is_up_to(last) => Err(Cause::Codes),

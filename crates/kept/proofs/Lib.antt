@@ -1,4 +1,3 @@
 pub mod Found
-pub mod Keeps
 mod Zipped
 pub mod Tables

@@ -1,5 +1,7 @@
 -- Steps from state to state, and lists of them in which no state and code come twice.
-use Rattle.std.specs.Prelude.{ℕ, Bool, true, cond, not, ◌&&◌, ◌||◌, List, [], ◌∷◌, ◌++◌, length, is_some, Some, None, Option, ◌==◌, nat_le}
+use Rattle.std.specs.Prelude.{ℕ, Bool, true, cond, not, ◌&&◌, ◌||◌, List, [], ◌∷◌, ◌++◌, length, map, is_some, Some, None, Option, ◌==◌, nat_le}
+use Rattle.std.specs.List.{zip}
+use Rattle.kept.specs.declared.kept.Move.{Move}
 use Rattle.states.specs.Sets.{State}
 use Rattle.states.specs.Sets.{same}
 
@@ -34,9 +36,6 @@ most = 512
 unfoldable pub keep : List Step → Step → List Step
 keep ks k = cond (is_some (found ks k.state k.code) || nat_le most (length ks)) ks (ks ++ k ∷ [])
 
--- the steps whose parts stand in three lists
-unfoldable pub zipped : List ℕ → List State → List State → List Step
-zipped [] ss ns = []
-zipped (c ∷ cs) [] ns = []
-zipped (c ∷ cs) (s ∷ ss) [] = []
-zipped (c ∷ cs) (s ∷ ss) (n ∷ ns) = step s c n ∷ zipped cs ss ns
+-- the steps whose codes stand in one list, and their states in another
+unfoldable pub zipped : List ℕ → List Move → List Step
+zipped cs ms = map (λ p. step p.1.state p.0 p.1.next) (zip cs ms)

@@ -5,4 +5,4 @@ use Rattle.kept.specs.declared.kept.Kept.{Kept}
 
 -- the kept steps, in the order in which they were kept
 unfoldable pub steps : Kept → List Step
-steps t = zipped (vec_items t.codes) (vec_items t.states) (vec_items t.nexts)
+steps t = zipped (vec_items t.codes) (vec_items t.moves)

@@ -9,16 +9,23 @@ pub(crate) mod table;
 // How many steps are kept at most.
 const LIMIT: usize = 512;
 
-// At most `LIMIT` steps, no two from the same state by the same code, in the order in which they were kept.
-// Step i leads from `states[i]` by `codes[i]` to `nexts[i]`. The codes stand apart, to be compared first: in one list of steps, a full
-// table with many codes is searched in 0.6 to 0.8 microseconds instead of 0.4.
+// A step without its code: from `state` it leads to `next`.
+#[derive(Clone, Copy)]
+pub(crate) struct Move {
+    state: State,
+    next: State,
+}
+
+// At most `LIMIT` steps, no two from the same state by the same code, in the order in which they were kept. It has no model: a
+// reader promises that a refused change leaves it as it was, every field, and callers see the steps by `steps`.
+// Step i leads from `moves[i].state` by `codes[i]` to `moves[i].next`. The codes stand apart, to be compared first: in one list of
+// steps, a full table with many codes was searched in 0.6 to 0.8 microseconds where lists by parts took 0.4.
 #[derive(Drop)]
 pub struct Kept {
     codes: Vec<u16>,
-    states: Vec<State>,
-    nexts: Vec<State>,
-    ghost level: { (vec_len states ≡ vec_len codes) × (vec_len nexts ≡ vec_len codes) },
-    ghost room: { (most ≤ vec_capacity codes) × (most ≤ vec_capacity states) × (most ≤ vec_capacity nexts) },
+    moves: Vec<Move>,
+    ghost level: { vec_len moves ≡ vec_len codes },
+    ghost room: { (most ≤ vec_capacity codes) × (most ≤ vec_capacity moves) },
     ghost few: { vec_len codes ≤ most },
-    ghost apart: { distinct (zipped codes.items states.items nexts.items) ≡ true },
+    ghost apart: { distinct (zipped codes.items moves.items) ≡ true },
 }

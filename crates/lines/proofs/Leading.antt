@@ -1,5 +1,5 @@
 -- A number that comes first is parted from what follows in one way only.
-use Rattle.std.proofs.Common.{◌≡◌, ℕ, ◌<◌, ◌≤◌, min, List, [], ◌∷◌, Some, None, Ok, Err, Option, Result, sym, refl, ap, ◌∙◌, subst, arith, lit≤}
+use Rattle.std.proofs.Common.{◌≡◌, ℕ, ◌<◌, ◌≤◌, min, List, [], ◌∷◌, Some, Ok, Err, Option, Result, sym, ap, ◌∙◌, subst, arith, lit≤}
 use Rattle.std.specs.Str.Parse.{AllDigits, digits_value}
 use Rattle.std.specs.Char.{digit_value}
 use Rattle.lines.specs.Numerals.{Number, last}
@@ -7,7 +7,7 @@ use Rattle.lines.specs.Parts.{Lacks, Parts}
 use Rattle.lines.specs.Lines.{Leads, Led, Parses, joined}
 use Rattle.lines.specs.declared.command.Command.{Command}
 use Rattle.lines.specs.declared.command.Expected.{Expected}
-use Rattle.lines.proofs.Parting.{one_parting}
+use Rattle.lines.proofs.Parting.{joined_parts, one_parting}
 
 -- digits hold no mark that is no digit
 pub digits_lack : (mark : ℕ) → 10 ≤ digit_value mark → (d : List ℕ) → AllDigits 10 d → Lacks mark d
@@ -17,31 +17,19 @@ digits_lack mark high (c ∷ d) h = (λ e. let v = subst (λ b. digit_value b < 
 digits_no_space : (d : List ℕ) → AllDigits 10 d → Lacks 32 d
 digits_no_space = digits_lack 32 (lit≤ tt)
 
-joined_parts : (d : List ℕ) (more : Option (List ℕ)) → AllDigits 10 d → Parts 32 (joined d more) d more
-joined_parts d None h = (digits_no_space d h, refl)
-joined_parts d (Some rest) h = (digits_no_space d h, refl)
-
-parts_joined : (text first : List ℕ) (more : Option (List ℕ)) → Parts 32 text first more → text ≡ joined first more
-parts_joined text first None h = h.1
-parts_joined text first (Some rest) h = h.1
-
--- what is parted at the first space, with a number before it, leads with that number
-pub parted_leads : (text first : List ℕ) (rest : Option (List ℕ)) (n : ℕ) → Parts 32 text first rest → Number first n → Leads (Some text) n rest
-parted_leads text first rest n h k = (first, ap Some (parts_joined text first rest h), k)
-
 -- a text that leads with a number has it before the first space
 pub leads_parted : (text first : List ℕ) (rest more : Option (List ℕ)) (n : ℕ) → Parts 32 text first rest → Leads (Some text) n more → Number first n
 leads_parted text first rest more n h k =
     let e : text ≡ joined k.0 more = cc k.1 in
-    let s = one_parting 32 text first k.0 rest more h (subst (λ t. Parts 32 t k.0 more) (sym e) (joined_parts k.0 more k.2.0.1)) in
+    let s = one_parting 32 text first k.0 rest more h (subst (λ t. Parts 32 t k.0 more) (sym e) (joined_parts k.0 more (digits_no_space k.0 k.2.0.1))) in
     subst (λ d. Number d n) (sym s.0) k.2
 
 -- a text leads with one number, behind which one rest stands
 pub leads_one : (rest m m' : Option (List ℕ)) (n n' : ℕ) → Leads rest n m → Leads rest n' m' → (n ≡ n') × (m ≡ m')
 leads_one rest m m' n n' h k =
     let e : joined h.0 m ≡ joined k.0 m' = cc (h.1, k.1) in
-    let p = joined_parts h.0 m h.2.0.1 in
-    let q = joined_parts k.0 m' k.2.0.1 in
+    let p = joined_parts h.0 m (digits_no_space h.0 h.2.0.1) in
+    let q = joined_parts k.0 m' (digits_no_space k.0 k.2.0.1) in
     let s = one_parting 32 (joined h.0 m) h.0 k.0 m m' p (subst (λ t. Parts 32 t k.0 m') (sym e) q) in
     (h.2.1 ∙ ap (λ d. min (digits_value 10 d) last) s.0 ∙ sym k.2.1, s.1)
 
@@ -56,4 +44,4 @@ led_refused makes rest more n h none c k =
 pub led_answers : (makes : ℕ → Option (List ℕ) → Command → Type 0) (rest more : Option (List ℕ)) (n : ℕ) → Leads rest n more →
     (r : Result Command Expected) → Parses (makes n more) r → Parses (Led makes rest) r
 led_answers makes rest more n h (Ok c) k = (n, more, h, k)
-led_answers makes rest more n h (Err e) k = led_refused makes rest more n h k
+led_answers makes rest more n h (Err e) k = (k.0, led_refused makes rest more n h k.1)

@@ -2,5 +2,7 @@ pub mod Decoding
 pub mod Leading
 mod HexText
 mod Numerals
+pub mod Refusing
 pub mod Parting
-mod Words
+pub mod Spelling
+pub mod Words

@@ -1,15 +1,14 @@
 -- The words of commands and books are of small letters, and no two commands have the same word.
-use Rattle.std.proofs.Common.{◌≡◌, ℕ, ◌<◌, Bool, true, cond, ◌&&◌, List, [], ◌∷◌, IsUtf8, Decides, sym, refl, ap, ◌∙◌, arith}
+use Rattle.std.proofs.Common.{◌≡◌, ℕ, Bool, true, cond, ◌&&◌, List, [], ◌∷◌, Decides, sym, refl, ap, ◌∙◌, arith}
 use Rattle.std.specs.Int.{is_in_range, IsInRange}
 use Rattle.std.specs.List.{AllByRecursion}
 use Rattle.std.specs.Str.{bytes_eq}
-use Rattle.std.proofs.ByRecursion.{IsAscii-from_all, All-weaker, Decides-by_and}
-use Rattle.std.proofs.lemmas.Str.{IsUtf8-from_ascii}
+use Rattle.std.proofs.ByRecursion.{All-weaker, Decides-by_and}
 use Rattle.std.proofs.lemmas.Bool.Decides.{nat_tests}
 use Rattle.lines.specs.Parts.{Lacks}
 use Rattle.lines.specs.Lines.{book_word, spelling}
 use Rattle.lines.specs.declared.command.BookName.{BookName}
-use Rattle.lines.specs.declared.command.BookName.TheVariants.{Numbers, Templates, Expressions, Events}
+use Rattle.lines.specs.declared.command.BookName.TheVariants.{Numbers}
 use Rattle.lines.specs.declared.word.Word.{Word}
 use Rattle.lines.specs.declared.word.Word.TheVariants.{New, Add, Code, Delete, Read, ReadHex, Cursor, CursorHex, Feed, FeedHex, Token, Peek, Last, Walk, Finish, Kind, Tally, Edition, Note}
 
@@ -26,9 +25,6 @@ small l = (Decides-by_and (is_in_range 97 122) (IsInRange 97 122) letters each r
 letters_no_space : (l : List ℕ) → letters l ≡ true → Lacks 32 l
 letters_no_space l h = All-weaker (IsInRange 97 122) (λ b. b ≡ 32 → ⊥) (λ b k e. omega arith) l (small l h)
 
-letters_utf8 : (l : List ℕ) → letters l ≡ true → IsUtf8 l
-letters_utf8 l h = IsUtf8-from_ascii l (IsAscii-from_all l (All-weaker (IsInRange 97 122) (λ b. b < 128) (λ b k. omega arith) l (small l h)))
-
 -- the word among these that bytes spell; any other bytes give the last
 abbrev among : List Word → List ℕ → Word
 among [] l = Note
@@ -40,24 +36,7 @@ named =
 
 sound : (w : Word) → (named (spelling w) ≡ w) × (letters (spelling w) ≡ true)
 sound New = (refl, refl)
-sound Add = (refl, refl)
-sound Code = (refl, refl)
-sound Delete = (refl, refl)
-sound Read = (refl, refl)
-sound ReadHex = (refl, refl)
-sound Cursor = (refl, refl)
-sound CursorHex = (refl, refl)
-sound Feed = (refl, refl)
-sound FeedHex = (refl, refl)
-sound Token = (refl, refl)
-sound Peek = (refl, refl)
-sound Last = (refl, refl)
-sound Walk = (refl, refl)
-sound Finish = (refl, refl)
-sound Kind = (refl, refl)
-sound Tally = (refl, refl)
-sound Edition = (refl, refl)
-sound Note = (refl, refl)
+sound w = (refl, refl)
 
 pub one_word : (v w : Word) → spelling v ≡ spelling w → v ≡ w
 one_word v w e = sym (sound v).0 ∙ ap named e ∙ (sound w).0
@@ -65,17 +44,9 @@ one_word v w e = sym (sound v).0 ∙ ap named e ∙ (sound w).0
 pub word_no_space : (w : Word) → Lacks 32 (spelling w)
 word_no_space w = letters_no_space (spelling w) (sound w).1
 
-pub word_utf8 : (w : Word) → IsUtf8 (spelling w)
-word_utf8 w = letters_utf8 (spelling w) (sound w).1
-
 book_letters : (b : BookName) → letters (book_word b) ≡ true
 book_letters Numbers = refl
-book_letters Templates = refl
-book_letters Expressions = refl
-book_letters Events = refl
+book_letters b = refl
 
 pub book_no_space : (b : BookName) → Lacks 32 (book_word b)
 book_no_space b = letters_no_space (book_word b) (book_letters b)
-
-pub book_utf8 : (b : BookName) → IsUtf8 (book_word b)
-book_utf8 b = letters_utf8 (book_word b) (book_letters b)

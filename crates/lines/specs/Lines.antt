@@ -49,13 +49,28 @@ spelling word.Tally = codes "tally"
 spelling word.Edition = codes "edition"
 spelling word.Note = codes "note"
 
+-- what can be expected of a line for its spelling alone, whatever is in use
+abbrev pub BySpelling : Expected → Type 0
+BySpelling expected.Command = Unit {0}
+BySpelling expected.Book = Unit {0}
+BySpelling expected.Edition = Unit {0}
+BySpelling expected.Number = Unit {0}
+BySpelling expected.Text = Unit {0}
+BySpelling expected.HexDigits = Unit {0}
+BySpelling expected.NoArgument = Unit {0}
+BySpelling expected.Changing = ⊥
+BySpelling expected.Code = ⊥
+BySpelling expected.Events = ⊥
+BySpelling expected.Cursor = ⊥
+BySpelling expected.Walk = ⊥
+
 -- what reading the name of a book answers
 abbrev pub IsBook : List ℕ → Result BookName Expected → Type 0
-IsBook name r = MatchResult r (λ b. name ≡ book_word b) (λ _. (b : BookName) → name ≢ book_word b)
+IsBook name r = MatchResult r (λ b. name ≡ book_word b) (λ x. (x ≡ expected.Book) × ((b : BookName) → name ≢ book_word b))
 
 -- what reading the first word of a command answers
 abbrev pub IsWord : List ℕ → Result Word Expected → Type 0
-IsWord first r = MatchResult r (λ w. first ≡ spelling w) (λ _. (w : Word) → first ≢ spelling w)
+IsWord first r = MatchResult r (λ w. first ≡ spelling w) (λ x. (x ≡ expected.Command) × ((w : Word) → first ≢ spelling w))
 
 -- what stands behind a word, if there is a space behind it
 abbrev pub behind : Behind → Option (List ℕ)
@@ -133,11 +148,11 @@ Decodable (command.Hex t digits) = Hex digits.now
 Decodable command.Last = Unit {0}
 Decodable (command.Order o) = Unit {0}
 
--- a command that passes `makes` is answered, or that there is none
+-- a command that passes `makes` is answered, or what the spelling lacks, where there is none
 abbrev pub Parses : {C : Type 0} → (C → Type 0) → Result C Expected → Type 0
-Parses {C} makes r = MatchResult r makes (λ _. (c : C) → makes c → ⊥)
+Parses {C} makes r = MatchResult r makes (λ x. BySpelling x × ((c : C) → makes c → ⊥))
 
--- parsing answers a command that the line spells, or that no command is spelled by it
+-- parsing answers a command that the line spells, or what its spelling lacks, where it spells none
 abbrev pub Answers : List ℕ → Result Command Expected → Type 0
 Answers line r = Parses (Spells line) r
 

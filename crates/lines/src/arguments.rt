@@ -9,7 +9,8 @@ use crate::decimals::{NoDecimal, decimal};
 use crate::hex_pairs::is_hex;
 use crate::parts::{Parted, SPACE, part};
 
-// What stands behind a word: the bytes after the space, or nothing where there is no space.
+// What stands behind a word: the bytes after the space, or nothing where there is no space. Each function below says in full what it
+// reads and what it expects, and no word for both is plainer, since what it reads has parts of its own in each.
 #[derive(Clone, Copy)]
 pub struct Behind<'a>(pub Option<&'a [u8]>);
 
@@ -23,34 +24,30 @@ pub(crate) struct Numbered<'a> {
 impl<'a> Behind<'a> {
     // Nothing stands there, not even a space, and the word alone makes the command.
     pub fn alone<C: Copy>(self, command: C) -> Result<C, Expected>
-        ensures { Parses (Alone command (behind self.entry)) result }
+        ensures { MatchResult result (Alone command (behind self.entry)) (λ x. (x ≡ Expected.NoArgument) × ((c : C) → Alone command (behind self.entry) c → ⊥)) }
     {
-        match self.0 {
-            None => Ok(command),
-            Some(_) => Err(Expected::NoArgument),
-        }
+        self.0.map_or(Ok(command), |_| Err(Expected::NoArgument))
     }
 
     // A text as it stands.
     pub fn text(self) -> Result<&'a [u8], Expected>
-        ensures { MatchResult result (λ t. behind self.entry ≡ Just t.now) (λ _. (t : List ℕ) → behind self.entry ≢ Just t) }
+        ensures { MatchResult result (λ t. behind self.entry ≡ Just t.now) (λ x. (x ≡ Expected.Text) × ((t : List ℕ) → behind self.entry ≢ Just t)) }
     {
         self.0.ok_or(Expected::Text)
     }
 
     // Pairs of hex digits, as they stand.
     pub fn hex_digits(self) -> Result<&'a [u8], Expected>
-        ensures { MatchResult result (λ d. (behind self.entry ≡ Just d.now) × Hex d.now) (λ _. (d : List ℕ) → behind self.entry ≡ Just d → Hex d → ⊥) }
+        ensures { MatchResult result (λ d. (behind self.entry ≡ Just d.now) × Hex d.now) (λ x. (x ≡ Expected.HexDigits) × ((d : List ℕ) → behind self.entry ≡ Just d → Hex d → ⊥)) }
     {
-        match self.0 {
-            Some(digits) if is_hex(digits) => Ok(digits),
-            _ => Err(Expected::HexDigits),
-        }
+        self.0
+            .filter(|digits| is_hex(digits))
+            .ok_or(Expected::HexDigits)
     }
 
     // A number that stands alone.
     pub fn number(self) -> Result<u32, Expected>
-        ensures { MatchResult result (λ n. (d : List ℕ) × (behind self.entry ≡ Just d) × Number d n) (λ _. (n : ℕ) (d : List ℕ) → behind self.entry ≡ Just d → Number d n → ⊥) }
+        ensures { MatchResult result (λ n. (d : List ℕ) × (behind self.entry ≡ Just d) × Number d n) (λ x. (x ≡ Expected.Number) × ((n : ℕ) (d : List ℕ) → behind self.entry ≡ Just d → Number d n → ⊥)) }
     {
         let digits = self.0.ok_or(Expected::Number)?;
         saturated(digits)
@@ -58,7 +55,7 @@ impl<'a> Behind<'a> {
 
     // A number that comes first.
     pub(crate) fn leading(self) -> Result<Numbered<'a>, Expected>
-        ensures { MatchResult result (λ l. Leads (behind self.entry) l.number (behind l.behind)) (λ _. (n : ℕ) (more : Maybe (List ℕ)) → Leads (behind self.entry) n more → ⊥) }
+        ensures { MatchResult result (λ l. Leads (behind self.entry) l.number (behind l.behind)) (λ x. (x ≡ Expected.Number) × ((n : ℕ) (more : Maybe (List ℕ)) → Leads (behind self.entry) n more → ⊥)) }
     {
         let text = self.0.ok_or(Expected::Number)?;
         let Parted { first, rest } = part(text, SPACE);
@@ -82,18 +79,17 @@ impl<'a> Behind<'a> {
 
 // A decimal number. One above 4,294,967,295 counts as that, which is above every limit of a call.
 pub fn saturated(digits: &[u8]) -> Result<u32, Expected>
-    ensures { MatchResult result (λ n. Number digits.now n) (λ _. (n : ℕ) → Number digits.now n → ⊥) }
+    ensures { MatchResult result (λ n. Number digits.now n) (λ x. (x ≡ Expected.Number) × ((n : ℕ) → Number digits.now n → ⊥)) }
 {
-    match decimal(digits) {
-        Ok(n) => Ok(n),
-        Err(NoDecimal::TooLarge) => Ok(u32::MAX),
-        Err(NoDecimal::NoDigits) => Err(Expected::Number),
-    }
+    decimal(digits).or_else(|fault| match fault {
+        NoDecimal::TooLarge => Ok(u32::MAX),
+        NoDecimal::NoDigits => Err(Expected::Number),
+    })
 }
 
 // A decimal number of 32 bits.
 fn edition(digits: &[u8]) -> Result<u32, Expected>
-    ensures { MatchResult result (λ n. Number32 digits.now n) (λ _. (n : ℕ) → Number32 digits.now n → ⊥) }
+    ensures { MatchResult result (λ n. Number32 digits.now n) (λ x. (x ≡ Expected.Edition) × ((n : ℕ) → Number32 digits.now n → ⊥)) }
 {
     decimal(digits).map_err(|_| Expected::Edition)
 }

@@ -131,14 +131,11 @@ impl TryFrom<&[u8]> for BookName {
     ghost try_from_gives = { λ name r. IsBook name.now r };
 
     fn try_from(name: &[u8]) -> Result<BookName, Expected> {
-        let Ok(name) = std::str::from_utf8(name) else {
-            return Err(Expected::Book);
-        };
         match name {
-            "numbers" => Ok(BookName::Numbers),
-            "templates" => Ok(BookName::Templates),
-            "expressions" => Ok(BookName::Expressions),
-            "events" => Ok(BookName::Events),
+            b"numbers" => Ok(BookName::Numbers),
+            b"templates" => Ok(BookName::Templates),
+            b"expressions" => Ok(BookName::Expressions),
+            b"events" => Ok(BookName::Events),
             _ => Err(Expected::Book),
         }
     }

@@ -20,9 +20,7 @@ pub fn decimal(digits: &[u8]) -> Result<u32, NoDecimal>
     if !is_numeral(digits) {
         return Err(NoDecimal::NoDigits);
     }
-    let Ok(text) = std::str::from_utf8(digits) else {
-        return Err(NoDecimal::NoDigits);
-    };
+    let text = std::str::from_utf8(digits).map_err(|_| NoDecimal::NoDigits)?;
     text.parse::<u32>().map_err(|_| NoDecimal::TooLarge)
 }
 

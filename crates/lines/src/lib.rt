@@ -15,3 +15,4 @@ pub use decimals::{NoDecimal, decimal};
 pub use hex_pairs::{NoBytes, bytes_of, is_hex};
 pub use parsing::{is_skipped, parse};
 pub use parts::{NEWLINE, Parted, SPACE, part};
+pub use word::Word;

@@ -27,8 +27,10 @@ pub fn parse(line: &[u8]) -> Result<Command<'_>, Expected>
 fn with_arguments<'a>(word: Word, rest: Behind<'a>) -> Result<Command<'a>, Expected>
     ensures { Parses (Makes word (behind rest.entry)) result }
 {
+    // A match, and no table of closures: of each word it is stated what arguments it takes, and the arms take different ones.
     match word {
         Word::New => rest.new_reader(),
+        // `Add` and `Code` share two lines: a function for them would need a struct for what it answers
         Word::Add => {
             let rule = rest.leading()?;
             let kind = rule.behind.leading()?;
@@ -74,7 +76,8 @@ fn with_arguments<'a>(word: Word, rest: Behind<'a>) -> Result<Command<'a>, Expec
     }
 }
 
-// What is done with a text as it stands.
+// What is done with a text as it stands. The next does the same with a text in hex digits: one for both would be handed how the text
+// is read and what it makes, which is all that each of them says.
 fn as_text<'a>(rest: Behind<'a>, task: Task) -> Result<Command<'a>, Expected>
     ensures { Parses (AsText (Command.Plain task) (behind rest.entry)) result }
 {

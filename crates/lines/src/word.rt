@@ -5,7 +5,7 @@ use crate::command::Expected;
 
 // The first word of a command, by its own name.
 #[derive(Clone, Copy, PartialEq, Eq, Debug)]
-pub(crate) enum Word {
+pub enum Word {
     New,
     Add,
     Code,
@@ -34,29 +34,26 @@ impl TryFrom<&[u8]> for Word {
     ghost try_from_gives = { λ bytes r. IsWord bytes.now r };
 
     fn try_from(bytes: &[u8]) -> Result<Word, Expected> {
-        let Ok(text) = std::str::from_utf8(bytes) else {
-            return Err(Expected::Command);
-        };
-        match text {
-            "new" => Ok(Word::New),
-            "add" => Ok(Word::Add),
-            "code" => Ok(Word::Code),
-            "delete" => Ok(Word::Delete),
-            "read" => Ok(Word::Read),
-            "readx" => Ok(Word::ReadHex),
-            "cursor" => Ok(Word::Cursor),
-            "cursorx" => Ok(Word::CursorHex),
-            "feed" => Ok(Word::Feed),
-            "feedx" => Ok(Word::FeedHex),
-            "token" => Ok(Word::Token),
-            "peek" => Ok(Word::Peek),
-            "last" => Ok(Word::Last),
-            "walk" => Ok(Word::Walk),
-            "finish" => Ok(Word::Finish),
-            "kind" => Ok(Word::Kind),
-            "tally" => Ok(Word::Tally),
-            "edition" => Ok(Word::Edition),
-            "note" => Ok(Word::Note),
+        match bytes {
+            b"new" => Ok(Word::New),
+            b"add" => Ok(Word::Add),
+            b"code" => Ok(Word::Code),
+            b"delete" => Ok(Word::Delete),
+            b"read" => Ok(Word::Read),
+            b"readx" => Ok(Word::ReadHex),
+            b"cursor" => Ok(Word::Cursor),
+            b"cursorx" => Ok(Word::CursorHex),
+            b"feed" => Ok(Word::Feed),
+            b"feedx" => Ok(Word::FeedHex),
+            b"token" => Ok(Word::Token),
+            b"peek" => Ok(Word::Peek),
+            b"last" => Ok(Word::Last),
+            b"walk" => Ok(Word::Walk),
+            b"finish" => Ok(Word::Finish),
+            b"kind" => Ok(Word::Kind),
+            b"tally" => Ok(Word::Tally),
+            b"edition" => Ok(Word::Edition),
+            b"note" => Ok(Word::Note),
             _ => Err(Expected::Command),
         }
     }

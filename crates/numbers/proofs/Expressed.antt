@@ -3,7 +3,7 @@ use Rattle.std.proofs.Common.{◌≡◌, ℕ, ◌≤◌, true, ◌↔◌, List, 
 use Rattle.std.specs.List.{AllByRecursion}
 use Rattle.states.specs.Sets.{has_rule}
 use Rattle.books.specs.Texts.{meets}
-use Rattle.expressions.specs.Expression.{Concatenation, Denotes, OneOf, Repetition}
+use Rattle.expressions.specs.Expression.{Denotes, OneOf, Repetition}
 use Rattle.expressions.specs.Expression.Expr.{plus}
 use Rattle.expressions.specs.Expression.Repetition.{none, again}
 use Rattle.numbers.specs.Number.{Digits, Fraction, Number, UnitMm, digit_expression, fraction_expression, number_expression, unit_expression, number_meaning}

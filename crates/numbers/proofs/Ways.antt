@@ -3,9 +3,8 @@ use Rattle.std.proofs.Common.{◌≡◌, ℕ, zero, suc, ◌<◌, Bool, true, fa
 use Rattle.std.specs.List.{AllByRecursion}
 use Rattle.std.proofs.lemmas.Bool.{both_ways, and_parts, and_from, or_cases, eqb-true}
 use Rattle.std.proofs.lemmas.Bool.Decides.{same_from_decides}
-use Rattle.states.specs.Sets.{State}
+use Rattle.states.specs.Sets.{State, has, has_rule}
 use Rattle.states.specs.Words.{some}
-use Rattle.states.specs.Sets.{has, has_rule}
 use Rattle.states.proofs.Members.{has_set_of}
 use Rattle.books.specs.Texts.{after, meets}
 use Rattle.numbers.specs.Number.{takes, among, followers, follows, number_next, number_meaning}

@@ -3,11 +3,11 @@ use Rattle.std.specs.Prelude.{◌≡◌, ℕ, zero, suc, ◌<◌, Bool, true, fa
 use Rattle.std.proofs.Common.{sym, ap, ◌∙◌, inl, inr, arith}
 use Rattle.std.proofs.lemmas.Bool.{cases_lt, both_ways, and_parts, and_from, ltb-true, lt-ltb, eqb-true, eq-eqb}
 use Rattle.std.proofs.lemmas.Bool.Decides.{nat_tests, Decides-below_or}
-use Rattle.states.specs.Sets.{State}
+use Rattle.states.specs.Sets.{State, has, has_rule}
 use Rattle.states.specs.Words.{some}
-use Rattle.states.specs.Sets.{has, has_rule}
-use Rattle.states.proofs.Members.{has_set_of, has_rule_rules_of, member_below, some_member, rules_above}
+use Rattle.states.proofs.Members.{has_set_of, has_rule_rules_of, member_below, rules_above}
 use Rattle.books.specs.Meaning.{Lawful, Live, touches, is}
+use Rattle.books.proofs.Touching.{touched, fails}
 use Rattle.numbers.specs.Number.{takes, follows, leads, number_next, number_meaning}
 
 -- ---- states
@@ -69,11 +69,6 @@ owned p r = of_test (nat_lt p 6)
     of_test true = refl
     of_test false = refl
 
--- s holds a position of rule r
-touched : (r : ℕ) (s : State) → Decides (touches number_meaning r s) ((p : ℕ) × (has s p ≡ true) × (is (number_meaning.owner p) r ≡ true))
-unfolding touches
-touched r s = some_member s (λ p. is (number_meaning.owner p) r)
-
 -- what is given only where a test passes
 given_by : (b : Bool) (x y : ℕ) → cond b (Some x) None ≡ Some y → (b ≡ true) × (x ≡ y)
 given_by true x y e = (refl, cc)
@@ -89,22 +84,17 @@ steps s c p h = let w = (next_led s c p).0 h in is_live p ∙ lt-ltb p 6 (follow
 
 apart : (r : ℕ) (s : State) (c : ℕ) → touches number_meaning r (number_next s c) ≡ true → touches number_meaning r s ≡ true
 apart r s c e =
-    let t = (touched r (number_next s c)).0 e in
+    let t = (touched number_meaning r (number_next s c)).0 e in
     let w = (next_led s c t.0).0 t.1 in
     let zeroth = (and_parts (nat_lt t.0 6) (0 == r) (sym (owned t.0 r) ∙ t.2)).1 in
-    (touched r s).1 (w.from, w.held, owned w.from r ∙ and_from _ _ (lt-ltb w.from 6 w.below) zeroth)
+    (touched number_meaning r s).1 (w.from, w.held, owned w.from r ∙ and_from _ _ (lt-ltb w.from 6 w.below) zeroth)
 
 ends : (r : ℕ) (s : State) → has_rule (number_meaning.ended s) r ≡ true → touches number_meaning r s ≡ true
 ends r s e = elim (cases_lt r 64) [
   | inl l ↦ (let w = and_parts (r == 0) (has s 5) (sym (has_rule_rules_of (λ r. (r == 0) && has s 5) r l) ∙ e) in
-      (touched r s).1 (5, w.1, owned 5 r ∙ eq-eqb 0 r (sym (eqb-true r 0 w.0))))
+      (touched number_meaning r s).1 (5, w.1, owned 5 r ∙ eq-eqb 0 r (sym (eqb-true r 0 w.0))))
   | inr l ↦ absurd (both_ways _ (rules_above (number_meaning.ended s) r l) e)
 ]
-
--- what fails of the second fails of the first
-fails : (x y : Bool) → (x ≡ true → y ≡ true) → y ≡ false → x ≡ false
-fails true y h e = absurd (both_ways y e (h refl))
-fails false y h e = refl
 
 pub number_lawful : Lawful number_meaning
 number_lawful = record {

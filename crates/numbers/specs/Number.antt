@@ -1,9 +1,8 @@
 -- The texts that are numbers, and the number book as positions and states.
 use Rattle.std.specs.Prelude.{◌≡◌, ℕ, ◌≤◌, Bool, false, cond, ◌&&◌, ◌||◌, ◌⊎◌, List, [], ◌∷◌, ◌++◌, Some, None, ◌==◌, ◌≢◌, nat_eq, nat_le, nat_lt, slice_index_or}
 use Rattle.std.specs.List.{AllByRecursion}
-use Rattle.states.specs.Sets.{State}
+use Rattle.states.specs.Sets.{State, has, set_of, rules_of}
 use Rattle.states.specs.Words.{some}
-use Rattle.states.specs.Sets.{has, set_of, rules_of}
 use Rattle.books.specs.Meaning.{Meaning, Model, counting}
 use Rattle.expressions.specs.Expression.{Plain}
 use Rattle.expressions.specs.Expression.Expr.{symbol, join, plus, optional}

@@ -12,7 +12,7 @@ mod tests {
     use books::{Book, Noted};
     use states::State;
 
-    // The state that the text leads to.
+    // The state that the text leads to. A test's helper is its crate's own.
     fn reached(book: &mut NumberBook, text: &[u8]) -> State {
         let mut state = book.start();
         for byte in text {

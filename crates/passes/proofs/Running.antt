@@ -1,8 +1,9 @@
 -- Passing the lines of a script one after the other.
-use Rattle.std.proofs.Common.{◌≡◌, ℕ, suc, ◌<◌, ◌≤◌, List, [], ◌∷◌, ◌++◌, length, is_some, Some, None, Option, sym, refl, ap, ◌∙◌, subst, append_assoc, append-nil, arith, length-append}
-use Rattle.std.specs.Option.{option_map}
+use Rattle.std.proofs.Common.{◌≡◌, ℕ, suc, ◌<◌, ◌≤◌, List, [], ◌∷◌, ◌++◌, length, Some, None, Option, sym, ap, ◌∙◌, subst, append_assoc, append-nil, arith, length-append}
+use Rattle.std.specs.Io.KnownBytes.{Appends as Grows}
+use Rattle.std.proofs.KnownBytes.{Appends-nil, Appends-trans}
 use Rattle.lines.specs.Parts.{Parts}
-use Rattle.passes.specs.Scripts.{Place, Written, Running, Expecting, Passes, Goes, stays, then, Appends, left}
+use Rattle.passes.specs.Scripts.{Place, Written, Running, Expecting, Passes, Goes, stays, then, Appends, AppendsKnown, left}
 
 parts_less : (mark : ℕ) (t v : List ℕ) (rest : Option (List ℕ)) → Parts mark t v rest → left rest < suc (length t)
 parts_less mark t v None h = omega arith
@@ -32,6 +33,29 @@ goes_on p q r a b c a' b' c' (v, e, f, g) (w, k, l, s) = (
   then g s,
 )
 
-pub some_mapped : {A B : Type 0} (f : A → B) (o : Option A) → is_some (option_map f o) ≡ is_some o
-some_mapped f None = refl
-some_mapped f (Some x) = refl
+-- lines are passed, and then more
+pub goes_then : {V : Type 0} {runs : Running V} {unfit : Expecting V} (p q r : Place V) (v w : Written) → Goes runs unfit p q v → Goes runs unfit q r w
+    → Goes runs unfit p r (record { answers = v.answers ++ w.answers; reports = v.reports ++ w.reports })
+goes_then {runs = runs} {unfit = unfit} p q r v w g stays =
+    subst (λ a. Goes runs unfit p r (record { answers = a; reports = v.reports ++ [] })) (sym (append-nil v.answers))
+    (subst (λ b. Goes runs unfit p r (record { answers = v.answers; reports = b })) (sym (append-nil v.reports)) g)
+goes_then {runs = runs} {unfit = unfit} p q r v w g (then {q = m} {v = a} {w = b} h s) =
+    subst (λ t. Goes runs unfit p r (record { answers = t; reports = v.reports ++ (a.reports ++ b.reports) })) (append_assoc v.answers a.answers b.answers)
+    (subst (λ t. Goes runs unfit p r (record { answers = (v.answers ++ a.answers) ++ b.answers; reports = t })) (append_assoc v.reports a.reports b.reports)
+    (then (goes_then p q m v a g h) s))
+
+-- what was appended to empty texts is written behind what two writers hold
+pub writes_on : {V : Type 0} {runs : Running V} {unfit : Expecting V} (p q r : Place V) (a b c a' b' c' : Option (List ℕ)) (s t s' t' : List ℕ) → s ≡ [] → s' ≡ []
+    → AppendsKnown (Goes runs unfit p q) a b a' b' → Appends (Goes runs unfit q r) s t s' t' → Grows b c t → Grows b' c' t' → AppendsKnown (Goes runs unfit p r) a c a' c'
+writes_on p q r a b c a' b' c' s t s' t' none none' (v, e, f, g) (w, k, l, h) x x' =
+    let is = k ∙ ap (λ z. z ++ w.answers) none in
+    let is' = l ∙ ap (λ z. z ++ w.reports) none' in (
+      record { answers = v.answers ++ w.answers; reports = v.reports ++ w.reports },
+      Appends-trans a b c v.answers w.answers e (subst (Grows b c) is x),
+      Appends-trans a' b' c' v.reports w.reports f (subst (Grows b' c') is' x'),
+      goes_then p q r v w g h,
+    )
+
+-- nothing is written yet
+pub writes_nothing : {V : Type 0} {runs : Running V} {unfit : Expecting V} (p : Place V) (a b : Option (List ℕ)) → AppendsKnown (Goes runs unfit p p) a a b b
+writes_nothing p a b = (record { answers = []; reports = [] }, Appends-nil a, Appends-nil b, stays)

@@ -1,5 +1,6 @@
 -- Running a script, line by line, in the terms of what runs one line.
 use Rattle.std.specs.Prelude.{◌≡◌, ℕ, suc, ◌+◌, min, Bool, true, ◌⊎◌, List, [], ◌++◌, length, Some, None, Option}
+use Rattle.std.specs.Io.KnownBytes.{Appends as Grows}
 use Rattle.lines.specs.Parts.{Parts}
 use Rattle.lines.specs.Lines.{Skipped}
 use Rattle.answers.specs.Texts.{malformed_line}
@@ -63,3 +64,7 @@ pub data Goes {V : Type 0} (runs : Running V) (unfit : Expecting V) (p : Place V
 abbrev pub Appends : (Written → Type 0) → List ℕ → List ℕ → List ℕ → List ℕ → Type 0
 Appends R answers answers' reports reports' =
     (w : Written) × (answers' ≡ answers ++ w.answers) × (reports' ≡ reports ++ w.reports) × R w
+
+-- what is appended to what two writers hold, where that is known, as R says
+abbrev pub AppendsKnown : (Written → Type 0) → Option (List ℕ) → Option (List ℕ) → Option (List ℕ) → Option (List ℕ) → Type 0
+AppendsKnown R answers answers' reports reports' = (w : Written) × Grows answers answers' w.answers × Grows reports reports' w.reports × R w

@@ -30,7 +30,7 @@ impl From<AllocError> for Fault {
     }
 }
 
-// What is printed into memory fails only for want of it.
+// What is printed into memory fails only for want of it. Nothing here uses this conversion; it stays, since it is public.
 impl From<fmt::Error> for Fault {
     ghost from_gives = { λ _ r. r ≡ NoMemory };
 

@@ -41,7 +41,8 @@ impl<'s, S: LineRunner> Script<'s, S> {
     }
 
     // Passes the lines that are left, until one is malformed or `out` is full, and says whether some are left then. Answers
-    // are appended to `out`, reports of malformed lines to `errors`.
+    // are appended to `out`, reports of malformed lines to `errors`. `heap`, `out` and `errors` are no struct: the clauses speak
+    // of each text by itself, old and new, and of no `heap`.
     pub fn run(
         &mut self,
         heap: Global,

@@ -1,11 +1,9 @@
 -- How the members of a class make spans.
-use Rattle.std.proofs.Common.{◌≡◌, ℕ, ◌+◌, ◌≤◌, Bool, true, false, cond, not, ◌&&◌, ◌||◌, eqb, ltb, leb, List, [], ◌∷◌, ◌++◌, length, get_or, drop, None, Ok, Err, length-drop, sym, refl, ap, ◌∙◌, subst, arith}
+use Rattle.std.proofs.Common.{◌≡◌, ℕ, ◌+◌, ◌≤◌, true, false, cond, not, ◌&&◌, ◌||◌, ltb, leb, List, [], ◌∷◌, ◌++◌, length, get_or, drop, None, Ok, Err, length-drop, sym, refl, ap, ◌∙◌, subst, arith}
 use Rattle.std.proofs.lemmas.Bool.{lt-ltb, le-ltb, eq-eqb}
 use Rattle.std.proofs.Math.Bool.{or_assoc}
 use Rattle.std.proofs.lemmas.List.{append-nil}
-use Rattle.std.proofs.lemmas.Bool.Decides.{nat_tests}
-use Rattle.states.specs.Sets.{State}
-use Rattle.states.specs.Sets.{has}
+use Rattle.states.specs.Sets.{State, has}
 use Rattle.patterns.specs.declared.members.Member.{Member}
 use Rattle.patterns.specs.declared.classes.Held.{Held}
 use Rattle.patterns.specs.declared.classes.Held.TheVariants as held
@@ -26,19 +24,6 @@ Dashed (held.Dash a d) = dash d ≡ true
 
 never_below : (n : ℕ) → ltb n n ≡ false
 never_below n = le-ltb n n (omega arith)
-
--- a byte more in a range that begins at or below it
-range_more : (low p n : ℕ) → low ≤ n → ((leb low p && ltb p n) || eqb p n) ≡ (leb low p && ltb p (n + 1))
-range_more low p n h = grind (arith, nat_tests)
-
-range_last : (low p n : ℕ) → ltb p (n + 1) ≡ leb p n
-range_last low p n = grind (arith, nat_tests)
-
-pub with_next : (a b r : Bool) (low p n : ℕ) → low ≤ n → b ≡ (a || (leb low p && ltb p n)) → r ≡ (b || eqb p n) → r ≡ (a || (leb low p && ltb p (n + 1)))
-with_next a b r low p n h e f = f ∙ ap (λ t. t || eqb p n) e ∙ or_assoc a (leb low p && ltb p n) (eqb p n) ∙ ap (λ t. a || t) (range_more low p n h)
-
-pub with_last : (a b r : Bool) (low p n : ℕ) → low ≤ n → b ≡ (a || (leb low p && ltb p n)) → r ≡ (b || eqb p n) → r ≡ (a || (leb low p && leb p n))
-with_last a b r low p n h e f = with_next a b r low p n h e f ∙ ap (λ t. a || (leb low p && t)) (range_last low p n)
 
 module _ (all : List Member) (s s' : State) where
   spanned : (m : Span) (ms left : List Span) → falling left ≡ falling (m ∷ ms) → ((x : ℕ) → covers left x ≡ covers (m ∷ ms) x)

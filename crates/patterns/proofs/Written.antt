@@ -4,8 +4,7 @@ use mathlib.Core.List.{reverse_aux}
 use Rattle.std.proofs.lemmas.List.{reverse-reverse, length-reverse}
 use Rattle.std.specs.Option.{ok_or}
 use Rattle.expressions.specs.Expression.{either}
-use Rattle.states.specs.Sets.{State}
-use Rattle.states.specs.Sets.{has}
+use Rattle.states.specs.Sets.{State, has}
 use Rattle.patterns.specs.declared.faults.PatternFault.{PatternFault}
 use Rattle.patterns.specs.declared.faults.PatternFault.TheVariants.{EmptyClass}
 use Rattle.patterns.specs.declared.runs.Run.{Run}
@@ -32,10 +31,6 @@ put_more {run = run} {rest = rest} {a = a} {d = d} p e x y = record {
   all = p.all ∙ ap (λ l. reverse_aux l (p.last ∷ p.before)) e;
   put = adds_both (runs_written (p.last ∷ p.before)) (written (ranged run) ++ 65 ∷ []) p.put (adds_both (written (ranged run)) (65 ∷ []) x y);
 }
-
-pub all_put : {first : Run} {others left : List Run} {a b : Sink} → Putting first others left a b → left ≡ [] → Adds a (runs_written (reverse (first ∷ others))) b
-all_put {a = a} {b = b} p e =
-    subst (λ l. Adds a (runs_written l) b) (sym (p.all ∙ ap (λ l. reverse_aux l (p.last ∷ p.before)) e)) p.put
 
 -- whether there is a first run
 pub first_none : (o : Option Run) (f g : PatternFault) → Err f ≡ ok_or o g → (o ≡ None) × (f ≡ g)

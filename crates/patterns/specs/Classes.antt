@@ -1,7 +1,6 @@
 -- Classes: the members of a body, the ranges that they make, the set of bytes, and its longest runs.
 use Rattle.std.specs.Prelude.{◌≡◌, ℕ, zero, suc, ◌+◌, ◌-◌, ◌<◌, Bool, true, false, cond, not, ◌&&◌, ◌||◌, List, [], ◌∷◌, length, reverse, drop, Some, None, Ok, Err, Option, Result, ◌==◌, nat_le, nat_lt}
-use Rattle.states.specs.Sets.{State}
-use Rattle.states.specs.Sets.{has}
+use Rattle.states.specs.Sets.{State, has}
 use Rattle.patterns.specs.declared.faults.PatternFault.{PatternFault}
 use Rattle.patterns.specs.declared.faults.PatternFault.TheVariants.{FallingRange}
 use Rattle.patterns.specs.declared.members.Member.{Member}

@@ -1,5 +1,5 @@
 // Classes: the set of bytes that a body tells.
-ghost use Rattle.std.specs.Prelude.{◌≡◌, ℕ, ◌+◌, ◌≤◌, ◌&&◌, ◌||◌, length, nat_le};
+ghost use Rattle.std.specs.Prelude.{◌≡◌, ℕ, ◌+◌, ◌||◌, length};
 ghost use Rattle.states.specs.Sets.{has};
 ghost use Rattle.patterns.specs.Classes.{ClassRead, BytesRead, spans, covers, pending};
 
@@ -40,14 +40,14 @@ fn class_set(text: Text) -> Result<State, PatternFault>
             (Held::Nothing, _) => Held::Member(member),
             (Held::Member(left), b'-') if member.bare => Held::Dash(left, member),
             (Held::Member(left), _) => {
-                set = with_range(set, left.value, left.value);
+                set = set.with_range(left.value, left.value);
                 Held::Member(member)
             }
             (Held::Dash(left, _), right) => {
                 if right < left.value {
                     return Err(PatternFault::FallingRange(left.place));
                 }
-                set = with_range(set, left.value, right);
+                set = set.with_range(left.value, right);
                 Held::Nothing
             }
         };
@@ -61,21 +61,10 @@ fn with_held(set: State, held: Held) -> State
 {
     match held {
         Held::Nothing => set,
-        Held::Member(member) => with_range(set, member.value, member.value),
+        Held::Member(member) => set.with_range(member.value, member.value),
         Held::Dash(left, dash) => {
-            let set = with_range(set, left.value, left.value);
-            with_range(set, dash.value, dash.value)
+            let set = set.with_range(left.value, left.value);
+            set.with_range(dash.value, dash.value)
         }
     }
-}
-
-// The set with the bytes from low to high.
-fn with_range(mut set: State, low: u8, high: u8) -> State
-    requires { low ≤ high }
-    ensures { (p : ℕ) → has result p ≡ (has set p || (nat_le low p && nat_le p high)) }
-{
-    for byte in low..=high {
-        set = set.with(byte);
-    }
-    set
 }

@@ -13,15 +13,16 @@ pub(crate) enum Mark<'t> {
     Byte(u8),
     Escape(u8),
     Class(Text<'t>),
+    // a `char`, decided by character literals: the project's form for a sign
     Sign(char),
 }
 
-// How often an atom is taken.
+// How often an atom is taken, with the letter of its command.
 #[derive(Clone, Copy)]
 pub(crate) enum Repeat {
-    Star,
-    Plus,
-    Optional,
+    Star = b'S' as isize,
+    Plus = b'P' as isize,
+    Optional = b'O' as isize,
 }
 
 // A sign that says nothing of the atom before it.
@@ -48,11 +49,7 @@ impl Repeat {
     pub(crate) fn letter(self) -> u8
         ensures { result ≡ letter_of self }
     {
-        match self {
-            Repeat::Star => b'S',
-            Repeat::Plus => b'P',
-            Repeat::Optional => b'O',
-        }
+        self as u8
     }
 }
 

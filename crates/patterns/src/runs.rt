@@ -11,7 +11,8 @@ use crate::sink::Sink;
 use crate::text::Text;
 use states::State;
 
-// Bytes from low to high. No range of the library's: that one also keeps whether it is used up.
+// Bytes from low to high. No range of the library's: that one also keeps whether it is used up. No `CodeRange`: its codes may be more
+// than a byte, which each clause here would have to deny.
 #[derive(Clone, Copy)]
 pub(crate) struct Run {
     pub(crate) low: u8,
@@ -41,6 +42,8 @@ impl Iterator for Runs {
     fn next(&mut self) -> Option<Run> {
         let low = self.0.pop_lowest()?;
         let mut high = low;
+        // a `while`, since the run ends where a byte is missing: an iterator over the members would take one more, and a `for` over
+        // the bytes would hold the same test and a `break`
         while high < 255 && self.0.holds(high + 1) {
             high += 1;
             self.0 = self.0.without(State::single(high));

@@ -17,6 +17,7 @@ impl<B: Book> Reader<B> {
         ensures made { MatchResult result (λ x. view x ≡ fresh (B.model book) edition) (λ e. e.book ≡ book) }
         ensures stands { IfOk result (λ x. (es : List Entry) → History (view x) es → Stands es) }
     {
+        // no `map_err`: its closure would take the book
         let Ok(kept) = Kept::new(heap) else {
             return Err(NoMemory { book });
         };

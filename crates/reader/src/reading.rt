@@ -16,6 +16,7 @@ impl<B: Book> Reader<B> {
         ensures does { Does (reads (whole (map B.Symbol.Symbol.code text.now))) (ended result.rules) result.count (view self.old) (view self.new) }
         ensures meant { ReadsAsMeant (whole (map B.Symbol.Symbol.code text.now)) (ended result.rules) result.count (view self.old) (view self.new) }
     {
+        // a loop as in `seek`, which looks at each state on the way: one for both would take a closure that borrows the reader again
         let mut state = self.book.start();
         let mut count: usize = 0;
         for symbol in text {

@@ -9,7 +9,8 @@ use books::Book;
 use states::State;
 use symbols::Symbol;
 
-// Where a step led, and whether it was worked out. The state is there in both cases, so it is no Option.
+// Where a step led, and whether it was worked out. The state is there in both cases, so it is no Option; `Fed` says the same of a
+// walk, and one type over both would name neither.
 #[derive(Clone, Copy)]
 pub(crate) struct Taken {
     pub(crate) state: State,

@@ -12,7 +12,7 @@ use crate::cursor::Cursor;
 use crate::reader::Reader;
 use books::{Book, Refusal};
 
-// Puts a place back where it was, at the end of a peek, whichever way it ends.
+// Puts a place back where it was, at the end of a peek, whichever way it ends: the project's form, by a guard over the plain place.
 struct PutBack<'p> {
     place: &'p mut usize,
     was: usize,
@@ -28,7 +28,8 @@ impl Drop for PutBack<'_> {
 }
 
 impl<B: Book> Reader<B> {
-    // Looks for the longest token at a place of a text, and moves the place to its end.
+    // Looks for the longest token at a place of a text, and moves the place to its end. The place is lent, since a peek's guard
+    // borrows it too; each fact stands for a token and for a peek, since each of the two calls cites its own.
     fn advance(&mut self, text: &[B::Symbol], place: &mut usize) -> Result<Token, Refusal>
         requires { place.old ≤ length text.now }
         ensures read_token { Reads (token (map B.Symbol.Symbol.code text.now) place.old) (token_told result) (token_count result) (view self.old) (view self.new) }
@@ -40,12 +41,10 @@ impl<B: Book> Reader<B> {
     {
         let at = *place;
         let seen = self.seek(&text[at..]);
-        let Some(best) = seen.best else {
-            return Err(Refusal::NoToken {
-                place: at,
-                count: seen.count,
-            });
-        };
+        let best = seen.best.ok_or(Refusal::NoToken {
+            place: at,
+            count: seen.count,
+        })?;
         *place = at + best.length;
         Ok(Token {
             place: at,
@@ -83,7 +82,6 @@ impl<B: Book> Reader<B> {
             place: &mut cursor.place,
             was,
         };
-        let token = self.advance(text, guard.place)?;
-        Ok(token)
+        self.advance(text, guard.place)
     }
 }

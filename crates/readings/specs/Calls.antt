@@ -59,12 +59,21 @@ ChangesOr because change steps t n v w =
     ((v.edition ≡ final) × Refuses LastEdition t n v w)
     ⊎ (((v.edition < final) × ((f : BookFault) × because f × Refuses (Book f) t n v w)) ⊎ Changes change steps t n v w)
 
+-- An adding leaves every step kept.
+abbrev pub AddsBy : (BookFault → Type 0) → (Meaning → Meaning → Type 0) → Told → ℕ → View → View → Type 0
+AddsBy because change t n v w = ChangesOr because change v.kept t n v w
+
+-- A deletion of rule r is refused by the book where the rule is not in force, and drops the steps from states that hold a position of it.
+abbrev pub DeletesBy : ℕ → (Meaning → Meaning → Type 0) → Told → ℕ → View → View → Type 0
+DeletesBy r change t n v w =
+    ChangesOr (λ f. (f ≡ Absent) × (is_some (v.book.meaning.kind r) ≡ false)) change (without v.book.meaning r v.kept) t n v w
+
+-- over every book, which may refuse an adding for any of its questions
 abbrev pub Adds : ℕ → ℕ → Told → ℕ → View → View → Type 0
-Adds r k t n v w = ChangesOr (λ f. Unit {0}) (Added r k) v.kept t n v w
+Adds r k t n v w = AddsBy (λ f. Unit {0}) (Added r k) t n v w
 
 abbrev pub Deletes : ℕ → Told → ℕ → View → View → Type 0
-Deletes r t n v w =
-    ChangesOr (λ f. (f ≡ Absent) × (is_some (v.book.meaning.kind r) ≡ false)) (Deleted r) (without v.book.meaning r v.kept) t n v w
+Deletes r t n v w = DeletesBy r (Deleted r) t n v w
 
 -- a walk of this edition and state is this reader's: it carries its edition, and its positions are live
 abbrev pub Ours : View → ℕ → State → Type 0

@@ -1,12 +1,11 @@
 -- What each call does to a reader over a changing book, which says more of its changes than every book does.
-use Rattle.std.specs.Prelude.{◌≡◌, ℕ, List, [], ◌∷◌, Some, None, Option, false, is_some}
+use Rattle.std.specs.Prelude.{◌≡◌, ℕ, List, [], ◌∷◌, Some, None, Option}
 use Rattle.books.specs.Meaning.{Meaning}
 use Rattle.books.specs.Changes.{Added, Deleted}
 use Rattle.books.specs.declared.faults.BookFault.{BookFault}
-use Rattle.books.specs.declared.faults.BookFault.TheVariants.{Absent}
 use Rattle.readings.specs.Views.{View}
 use Rattle.readings.specs.Readings.{Told}
-use Rattle.readings.specs.Calls.{Call, ChangesOr, Does, without}
+use Rattle.readings.specs.Calls.{Call, AddsBy, DeletesBy, Does}
 use Rattle.readings.specs.Calls.Call.{read, add, delete, begin, finish}
 use Rattle.readings.specs.Entries.{Entry}
 
@@ -21,15 +20,6 @@ pub record AddedBy (refusal : Meaning → ℕ → ℕ → List ℕ → Option Bo
 pub record DeletedBy (shrinks : ℕ → Meaning → Meaning → Type 0) (r : ℕ) (m n : Meaning) : Type 0 where
   pub deleted : Deleted r m n
   pub shrunk : shrinks r m n
-
--- An adding leaves every step kept.
-abbrev pub AddsBy : (BookFault → Type 0) → (Meaning → Meaning → Type 0) → Told → ℕ → View → View → Type 0
-AddsBy because change t n v w = ChangesOr because change v.kept t n v w
-
--- A deletion of rule r is refused by the book where the rule is not in force, and drops the steps from states that hold a position of it.
-abbrev pub DeletesBy : ℕ → (Meaning → Meaning → Type 0) → Told → ℕ → View → View → Type 0
-DeletesBy r change t n v w =
-    ChangesOr (λ f. (f ≡ Absent) × (is_some (v.book.meaning.kind r) ≡ false)) change (without v.book.meaning r v.kept) t n v w
 
 -- Over a book that says of its changes what these three say. It refuses an adding for the fault that `refusal` finds and for no
 -- other; calls that change nothing do what they do over every book.

@@ -6,12 +6,12 @@ use Rattle.kept.specs.Steps.{most}
 use Rattle.readings.specs.Views.{View}
 use Rattle.readings.specs.Readings.{Reading, Bare}
 use Rattle.readings.specs.Calls.{Does}
+use Rattle.readings.specs.Changing.{Chain}
 use Rattle.readings.specs.Entries.{Entry, reading, is_changed, deleted, any_edition, met_in, counts, among, kept_after, unkept}
 
 -- the entries are calls of the reader v, one after the other
 abbrev pub History : View → List Entry → Type 0
-History v [] = Unit {0}
-History v (e ∷ es) = (w : View) × (e.book ≡ v.book.meaning) × Does e.call e.told e.count v w × History w es
+History v es = Chain Does v es
 
 -- no deletion of a rule in force at e was accepted in mid
 abbrev pub Stayed : Entry → List Entry → Type 0

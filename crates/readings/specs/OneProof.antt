@@ -3,8 +3,7 @@ use Rattle.std.proofs.Common.{◌≡◌, true, List, is_some, sym, ap, ◌∙◌
 use Rattle.std.specs.List.{AllByRecursion-prop}
 use Rattle.std.proofs.Math.Bool.{Bool-set}
 use mathlib.Core.HLevel.{collapsible→set}
-use Rattle.states.specs.Sets.{State}
-use Rattle.states.specs.Sets.{same}
+use Rattle.states.specs.Sets.{State, same}
 use Rattle.states.proofs.Members.{same_true, same_self}
 use Rattle.books.specs.Meaning.{Meaning}
 use Rattle.kept.specs.Steps.{Step}

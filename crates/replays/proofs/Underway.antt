@@ -1,14 +1,14 @@
 -- A replay under way.
-use Rattle.std.proofs.Common.{◌≡◌, ℕ, List, [], ◌∷◌, ◌++◌, map, length, sym, refl, ap, ◌∙◌, subst, ap₂, arith}
+use Rattle.std.proofs.Common.{◌≡◌, ℕ, List, [], ◌∷◌, ◌++◌, map, sym, refl, ap, ◌∙◌, subst, ap₂}
 use Rattle.std.proofs.lemmas.List.{map_push}
 use Rattle.books.specs.Meaning.{Model, Lawful}
 use Rattle.readings.specs.Views.{View, fresh}
 use Rattle.readings.specs.Readings.{Told}
-use Rattle.readings.specs.Calls.{Call}
+use Rattle.readings.specs.Calls.{Call, Does}
 use Rattle.readings.specs.Entries.{Entry}
 use Rattle.readings.specs.Changing.{Chain}
 use Rattle.readings.specs.Histories.{History}
-use Rattle.readings.proofs.Reaches.{Reaches, reaches_more, reaches_chain}
+use Rattle.readings.proofs.Reaches.{Reaches, reaches_more, reaches_chain, chain_history}
 use Rattle.readings.proofs.Stand.{stands}
 use Rattle.replays.specs.Replays.{call_of, told_of, count_of, Replayed, ReplayedBy}
 use Rattle.replays.specs.declared.log.Ask.{Ask}
@@ -69,3 +69,9 @@ module _ {S : Type 0} (code : S → ℕ) (does : Call → Told → ℕ → View 
     history = histories p.entries p.chain;
     stands = p.stands;
   }
+
+-- a log of such calls is a history
+pub replaying_done : {S : Type 0} (code : S → ℕ) (v : View) {asks all : List (Ask S)} {log : List Reply} {w : View} (b : Model) (edition : ℕ)
+    → v ≡ fresh b edition → Lawful b.meaning → all ≡ asks → Replaying code Does v asks log w → Replayed code (fresh b edition) all log
+replaying_done code v b edition new l e p =
+    replayed_by code Does (fresh b edition) (chain_history _) (replaying_done_by code Does v b edition new l (chain_history _) e p)

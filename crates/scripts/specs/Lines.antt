@@ -1,8 +1,8 @@
 -- Which lines spell which command.
-use Rattle.std.specs.Prelude.{◌≡◌, ℕ, List, ◌∷◌, ◌++◌, Some, codes, Option, Result, MatchResult}
+use Rattle.std.specs.Prelude.{◌≡◌, ℕ, List, ◌∷◌, ◌++◌, Some, codes, Option, Result}
 use Rattle.lines.specs.Numerals.{Number, Number32}
 use Rattle.lines.specs.Hex.{Hex}
-use Rattle.lines.specs.Lines.{book_word as any_word}
+use Rattle.lines.specs.Lines.{Parses, book_word as any_word}
 use Rattle.lines.specs.declared.command.BookName.{BookName as AnyName}
 use Rattle.lines.specs.declared.command.BookName.TheVariants as name
 use Rattle.scripts.specs.declared.command.BookName.{BookName}
@@ -10,11 +10,6 @@ use Rattle.scripts.specs.declared.command.BookName.TheVariants.{Numbers}
 use Rattle.lines.specs.declared.command.Expected.{Expected}
 use Rattle.scripts.specs.declared.command.Command.{Command}
 use Rattle.scripts.specs.declared.command.Command.TheVariants.{New, Read, ReadHex, Kind, Tally, Edition, Note}
-
--- what stands behind a word, if anything, read by R; it is refused where R reads nothing of it
-abbrev pub Argument : {A : Type 0} → (List ℕ → A → Type 0) → Option (List ℕ) → Result A Expected → Type 0
-Argument {A} R rest r =
-    MatchResult r (λ a. (t : List ℕ) × (rest ≡ Some t) × R t a) (λ _. (t : List ℕ) (a : A) → rest ≡ Some t → R t a → ⊥)
 
 -- a book by its name among all books
 abbrev pub shared : BookName → AnyName
@@ -27,6 +22,10 @@ book_word book = any_word (shared book)
 abbrev pub NewReader : List ℕ → BookName → ℕ → Type 0
 NewReader text book edition = (d : List ℕ) × (text ≡ book_word book ++ (32 ∷ d)) × Number32 d edition
 
+-- what stands behind a word, if anything, makes it a new reader
+abbrev pub AsNew : Option (List ℕ) → Command → Type 0
+AsNew rest c = (book : BookName) × (n : ℕ) × (t : List ℕ) × (c ≡ New book n) × (rest ≡ Some t) × NewReader t book n
+
 -- the line spells the command
 abbrev pub Spells : List ℕ → Command → Type 0
 Spells line (New book edition) = (t : List ℕ) × (line ≡ codes "new " ++ t) × NewReader t book edition
@@ -37,6 +36,6 @@ Spells line Tally = line ≡ codes "tally"
 Spells line Edition = line ≡ codes "edition"
 Spells line Note = line ≡ codes "note"
 
--- parsing answers a command that the line spells, or that no command is spelled by it
+-- parsing answers a command that the line spells, or what its spelling lacks, where it spells none
 abbrev pub Answers : List ℕ → Result Command Expected → Type 0
-Answers line r = MatchResult r (Spells line) (λ _. (c : Command) → Spells line c → ⊥)
+Answers line r = Parses (Spells line) r

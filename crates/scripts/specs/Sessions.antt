@@ -3,6 +3,7 @@ use Rattle.std.specs.Prelude.{◌≡◌, ℕ, List}
 use Rattle.books.specs.Meaning.{Model}
 use Rattle.numbers.specs.Number.{number_model}
 use Rattle.lines.specs.Hex.{written}
+use Rattle.lines.specs.Lines.{BySpelling}
 use Rattle.lines.specs.declared.command.Expected.{Expected}
 use Rattle.lines.specs.declared.command.Order.TheVariants as order
 use Rattle.answers.specs.Texts.{new_line}
@@ -31,6 +32,6 @@ Runs Note u w answer = Obeys order.Note u w answer
 abbrev pub RunsLine : List ℕ → Use → Use → List ℕ → Type 0
 RunsLine line u w answer = (c : Command) × Spells line c × Runs c u w answer
 
--- a line cannot be run that spells no command
+-- x is expected of a line that cannot be run: its spelling lacks it, so that the line spells no command
 abbrev pub Unfit : List ℕ → Use → Expected → Type 0
-Unfit line u x = (c : Command) → Spells line c → ⊥
+Unfit line u x = BySpelling x × ((c : Command) → Spells line c → ⊥)

@@ -1,5 +1,4 @@
 -- What is in use in a session, as its callers see it.
-use Rattle.numbers.specs.contracts.book.reading.NumberBookBook.TheImpl.{ghosts as number_reading}
 use Rattle.contexts.specs.Uses.{Use}
 use Rattle.contexts.specs.Contexts.{use_of}
 use Rattle.scripts.specs.declared.session.Session.{Session}

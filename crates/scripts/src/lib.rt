@@ -18,6 +18,7 @@ mod tests {
     use crate::{BookName, Script, Session, answers};
     use books::{BookFault, Refusal};
     use numbers::NumberBook;
+    use passes::script_text;
     use states::Rules;
     use std::test::Fail;
 
@@ -60,6 +61,34 @@ mod tests {
             "read rules=- kinds=- count=0\nread rules=- kinds=- count=0\n"
         );
         assert!(rt; !script.is_malformed());
+        Ok(())
+    }
+
+    // All answers and all reports are written, over as many turns as the malformed lines ask for.
+    #[test]
+    fn writes_all_answers_and_reports(rt: HostRuntime) -> Result<(), Fail> {
+        let heap = rt.alloc();
+        let mut script = Script::new(
+            Session::new(heap, BookName::Numbers, 3)?,
+            b"tally\nreed\nkind\nedition",
+        );
+        let mut out = Vec::new(heap);
+        let mut errors = Vec::new(heap);
+        assert!(rt; !script.run_all(heap, &mut out, &mut errors)?);
+        assert_eq!(rt; out.as_slice(), b"tally=0\nedition=3\n".as_slice());
+        assert_eq!(rt;
+            errors.as_slice(),
+            b"line 2: expected a command\nline 3: expected a decimal number\n".as_slice()
+        );
+        Ok(())
+    }
+
+    // Without a path the script is what is left of the input.
+    #[test]
+    fn reads_a_script_from_its_input(rt: HostRuntime) -> Result<(), Fail> {
+        let mut input: &[u8] = b"tally\n";
+        let text = script_text(&rt, None, &mut input)?;
+        assert_eq!(rt; text.as_slice(), b"tally\n".as_slice());
         Ok(())
     }
 

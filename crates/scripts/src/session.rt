@@ -45,6 +45,7 @@ impl LineRunner for Session {
     ghost Unfit = { Unfit };
 
     fn run_line(&mut self, heap: Global, line: &[u8], out: &mut String) -> Result<(), Fault> {
+        // A match, and no closure made by `parse`: a command is data, of which it is stated what line spells it before it is run.
         match parse(line)? {
             Command::New { book, edition } => {
                 *self = Session::new(heap, book, edition)?;

@@ -15,7 +15,7 @@ use Rattle.templates.specs.Templates.{template_refusal}
 use Rattle.expressions.specs.Rules.{refusal as expression_refusal}
 use Rattle.event_words.specs.Words.{InRange, Named, NamesEach, named_code, words}
 use Rattle.lines.specs.Hex.{written}
-use Rattle.lines.specs.Lines.{Spells}
+use Rattle.lines.specs.Lines.{BySpelling, Spells}
 use Rattle.lines.specs.declared.command.BookName.{BookName}
 use Rattle.lines.specs.declared.command.BookName.TheVariants.{Numbers, Templates, Expressions, Events}
 use Rattle.lines.specs.declared.command.Expected.{Expected}
@@ -165,6 +165,6 @@ Lacks (command.Order order) h x = Missing (λ _. Wants (wanting order)) h x
 abbrev pub RunsLine : List ℕ → Here → Here → List ℕ → Type 0
 RunsLine line h k answer = (c : Command) × Spells line c × Runs c h k answer
 
--- x is expected of a line that cannot be run: it spells no command, or one that lacks x
+-- x is expected of a line that cannot be run: its spelling lacks x, so that it spells no command, or it spells one that lacks x
 abbrev pub Unfit : List ℕ → Here → Expected → Type 0
-Unfit line h x = ((c : Command) → Spells line c → ⊥) ⊎ ((c : Command) × Spells line c × Lacks c h x)
+Unfit line h x = (BySpelling x × ((c : Command) → Spells line c → ⊥)) ⊎ ((c : Command) × Spells line c × Lacks c h x)

@@ -1,8 +1,4 @@
 -- A session as its callers see it.
-use Rattle.symbols.specs.contracts.event.EventSymbol.TheImpl.{ghosts as event_symbol}
-use Rattle.numbers.specs.contracts.book.reading.NumberBookBook.TheImpl.{ghosts as number_reading}
-use Rattle.templates.specs.contracts.book.reading.TemplateBookBook.TheImpl.{ghosts as template_reading}
-use Rattle.expression_book.specs.Tables.{book_model}
 use Rattle.lines.specs.declared.command.BookName.TheVariants as name
 use Rattle.sessions.specs.declared.session.AnyContext.{AnyContext}
 use Rattle.sessions.specs.declared.session.AnyContext.TheVariants.{Numbers, Templates, Expressions, Events}

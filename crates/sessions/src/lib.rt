@@ -1,4 +1,4 @@
-// Sessions, which run one line over any book. A script runs many of them in one.
+// A session runs the lines of a script, one after the other, over the book that they ask for.
 #![tactic(auto)]
 
 mod session;

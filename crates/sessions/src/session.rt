@@ -23,8 +23,10 @@ use std::alloc::{AllocError, Global};
 use symbols::{Event, Symbol};
 use templates::TemplateBook;
 
-// A reader over one of the books, in use. Each function of a session matches the four alike: a trait object may not be
-// handed out in their place.
+// Faults are written in full below: by `into` the proof of `take_events` did not close.
+
+// A reader over one of the books, in use. Each function of a session matches the four: a trait object may not be handed out in
+// their place, and a trait over the four would have as many functions as there are arms.
 #[derive(Drop)]
 enum AnyContext {
     Numbers(Context<NumberBook>),
@@ -78,6 +80,7 @@ impl Session {
         requires { Decodable command }
         ensures { Ran result here_of (Runs command.entry) (Lacks command.entry) self.old self.new out.old out.new }
     {
+        // A match, and no closure made by `parse`: a command is data, of which it is stated what line spells it before it is run.
         match command {
             Command::New { book, edition } => {
                 *self = Session::new(heap, book, edition)?;
@@ -178,7 +181,8 @@ fn in_use<B: Book + Drop>(heap: Global, book: B, edition: u32) -> Result<Context
     Ok(Context::new(reader))
 }
 
-// Takes a text over events. A word out of range is refused before anything else is done.
+// Takes a text over events. A word out of range is refused before anything else is done. No `?` takes the three refusals on,
+// since that one is answered and is no fault.
 fn take_events(
     context: &mut Context<ExpressionBook<Event>>,
     heap: Global,

@@ -11,10 +11,11 @@ use Rattle.std.proofs.lemmas.Nat.{one_shl}
 use lib.ListN.{set, replicate}
 use Rattle.std.proofs.lemmas.Grind.{same_number_lists}
 use Rattle.std.proofs.lemmas.Bool.{cases_lt, cases_eq, cases_Bool, both_ways, and_parts, and_from, and_left, and_right, eqb-true, eq-eqb, ne_eqb, lt-ltb, le-ltb}
-use Rattle.std.proofs.lemmas.Bool.Decides.{Decides-below_or, same_from_decides}
+use Rattle.std.proofs.lemmas.Bool.Decides.{Decides-below_or}
+use Rattle.std.proofs.Math.Bool.{and-false, and-true}
 use Rattle.states.specs.declared.set.Set.{Set}
 use Rattle.states.specs.Sets.{State, Rules, has, words_of, with_members, set_of, rules_of, same, is_empty, nothing, shares}
-use Rattle.states.specs.Words.{bit, tally, some, Least, Gathers}
+use Rattle.states.specs.Words.{bit, tally, some, Least}
 use Rattle.states.proofs.Digits.{bit_ext, bit_above, bit_zero, bit_ones, bit_single, bit_digits_of, bit_or_digit, bit_mod, bit_first, bit_half, lowest_digit, ones_tally, tally_same}
 
 -- ---- one number, if it is below k
@@ -112,19 +113,11 @@ has_each {n} s w here is digits p = elim (cases_lt p (64 * n)) [
   | inr l ↦ has_above s p l ∙ ap (λ (t : Bool). t && here) (sym (le-ltb p (64 * n) l))
 ]
 
-and_false : (t : Bool) → (t && false) ≡ false
-and_false true = refl
-and_false false = refl
-
-and_true : (t : Bool) → (t && true) ≡ t
-and_true true = refl
-and_true false = refl
-
 pub has_none : {n : ℕ} (s : Set n) → ((k : ℕ) → k < n → get_or s.words k 0 ≡ 0) → (p : ℕ) → has s p ≡ false
-has_none {n} s is p = has_each s 0 false is (λ r l. bit_zero r) p ∙ and_false (ltb p (64 * n))
+has_none {n} s is p = has_each s 0 false is (λ r l. bit_zero r) p ∙ and-false (ltb p (64 * n))
 
 pub has_all : {n : ℕ} (s : Set n) → ((k : ℕ) → k < n → get_or s.words k 0 ≡ 2 ^ 64 - 1) → (p : ℕ) → has s p ≡ ltb p (64 * n)
-has_all {n} s is p = has_each s (2 ^ 64 - 1) true is (λ r l. bit_ones 64 r ∙ lt-ltb r 64 l) p ∙ and_true (ltb p (64 * n))
+has_all {n} s is p = has_each s (2 ^ 64 - 1) true is (λ r l. bit_ones 64 r ∙ lt-ltb r 64 l) p ∙ and-true (ltb p (64 * n))
 
 -- ---- one number
 
@@ -139,7 +132,7 @@ pub has_single : {n : ℕ} (s : Set n) (at : ℕ) → ((k : ℕ) → k < n → g
     → (p : ℕ) → has s p ≡ (eqb p at && ltb p (64 * n))
 has_single {n} s at is p = elim (cases_lt p (64 * n)) [
   | inr l ↦ has_above s p l ∙ sym (and_right _ _ (le-ltb p (64 * n) l))
-  | inl l ↦ has_word s p ∙ ap (λ (w : ℕ). bit w (p % 64)) (is (p / 64) (omega arith)) ∙ inside ∙ sym (and_true (eqb p at)) ∙ ap (λ (t : Bool). eqb p at && t) (sym (lt-ltb p (64 * n) l))
+  | inl l ↦ has_word s p ∙ ap (λ (w : ℕ). bit w (p % 64)) (is (p / 64) (omega arith)) ∙ inside ∙ sym (and-true (eqb p at)) ∙ ap (λ (t : Bool). eqb p at && t) (sym (lt-ltb p (64 * n) l))
 ]
   where
     inside : bit (cond (eqb (p / 64) (at / 64)) (2 ^ (at % 64)) 0) (p % 64) ≡ eqb p at
@@ -392,14 +385,10 @@ has_nothing p = elim (cases_lt p 256) [ inl l ↦ has_set_of (λ q. false) p l |
 pub no_members : (s : State) → ((p : ℕ) → has s p ≡ false) → s ≡ nothing
 no_members s h = same_members s nothing (λ p l. h p ∙ sym (has_nothing p))
 
--- the union of the sets T p over the members p of s
 pub empty_is : (s : State) → is_empty s ≡ true → s ≡ nothing
 empty_is s e = no_members s ((is_empty_decides s (is_empty s) refl).0 e)
 
-pub gathers_set : (T : ℕ → ℕ → Bool) (s r : State) → Gathers T (has s) (has r) → r ≡ set_of (λ q. some (λ p. has s p && T p q) 256)
-gathers_set T s r g = is_set_of r _ (λ q l. same_from_decides (has r q) _ (g q) (some_member s (λ p. T p q)))
-
--- the same of sets of rules
+-- sets of rules with the same members are equal
 pub same_rules : (a b : Rules) → ((n : ℕ) → n < 64 → has a n ≡ has b n) → a ≡ b
 same_rules a b h = same_members a b h
 

@@ -5,15 +5,12 @@ use Rattle.std.specs.Iterator.{YieldsFirst, Yields}
 use Rattle.std.proofs.lemmas.Iterator.Consumers.{YieldsList-from_first, YieldsList-end}
 use Rattle.std.proofs.lemmas.Bool.{cases_eq, both_ways, and_parts, and_from, or_cases, or_left, or_right, eqb-true, eq-eqb, ne_eqb}
 use Rattle.std.proofs.lemmas.Bool.Decides.{same_from_decides}
+use Rattle.std.proofs.Math.Bool.{and-true}
 use Rattle.states.specs.declared.iter.Iter.{Iter}
 use Rattle.states.specs.declared.set.Set.{Set}
 use Rattle.states.specs.Sets.{has, members}
 use Rattle.states.specs.Words.{Least, Popped, Gathers}
 use Rattle.states.proofs.Members.{member_below}
-
-and_true : (x : Bool) → (x && true) ≡ x
-and_true true = refl
-and_true false = refl
 
 -- ---- the numbers that pass a test, in rising order
 
@@ -36,7 +33,7 @@ passing_first f g m a (suc k) low high least gone =
       | inl e ↦ (
           let fa : f a ≡ true = ap f e ∙ least.member in
           let ga : g a ≡ false = gone a ∙ ap₂ (λ (x y : Bool). x && not y) fa (eq-eqb a m e) in
-          let rest : filter f r ≡ filter g r = passing_same f g (a + 1) k (λ q l. sym (gone q ∙ ap (λ (t : Bool). f q && not t) (ne_eqb q m (λ h. absurd (omega arith))) ∙ and_true (f q))) in
+          let rest : filter f r ≡ filter g r = passing_same f g (a + 1) k (λ q l. sym (gone q ∙ ap (λ (t : Bool). f q && not t) (ne_eqb q m (λ h. absurd (omega arith))) ∙ and-true (f q))) in
           ap (λ (t : Bool). cond t (a ∷ filter f r) (filter f r)) fa ∙ ap₂ (λ (x : ℕ) (xs : List ℕ). x ∷ xs) e rest
           ∙ sym (ap (λ (t : Bool). m ∷ cond t (a ∷ filter g r) (filter g r)) ga))
       | inr d ↦ (

@@ -19,7 +19,7 @@ pub type Rules = Set<1>;
 mod tests {
     use crate::{Rules, State};
 
-    // The members of a state come out in rising order, over both words.
+    // The members of a state come out in rising order, over the words.
     #[test]
     fn members_rise(rt: HostRuntime) {
         let mut s = State::single(200).with(3).with(127).with(128);
@@ -42,12 +42,21 @@ mod tests {
         assert_eq!(rt; members.next(), None);
     }
 
-    // A step up crosses from one word to the other, and 255 drops out.
+    // A step up crosses from one word to the next, and 255 drops out.
     #[test]
     fn raised_over_words(rt: HostRuntime) {
         let s = State::single(127).with(255).with(0).raised();
         assert!(rt; s == State::single(128).with(1));
         assert!(rt; !s.touches(State::single(0)));
+    }
+
+    // A range holds both of its ends, over two words, and nothing where it falls.
+    #[test]
+    fn range_holds_both_ends(rt: HostRuntime) {
+        let s = State::single(7).with_range(62, 65);
+        assert_eq!(rt; s.count(), 5);
+        assert!(rt; s.holds(7) && s.holds(62) && s.holds(65));
+        assert!(rt; State::empty().with_range(2, 1).is_empty());
     }
 
     #[test]

@@ -5,7 +5,8 @@ ghost use Rattle.std.proofs.Common.{lit≤};
 pub(crate) mod making;
 pub(crate) mod reading;
 
-// A set of numbers below 64 × WORDS. Number n is digit n % 64 of word n / 64.
+// A set of numbers below 64 × WORDS. Number n is digit n % 64 of word n / 64. It has no model: its members are a function, so that
+// each contract would still say for each number whether it is one.
 #[derive(Clone, Copy, Eq, Debug)]
 pub struct Set<const WORDS: usize> {
     pub words: [u64; WORDS],
@@ -18,7 +19,7 @@ pub trait Width<const WORDS: usize> {
     ghost small: { WORDS ≤ 4 };
 }
 
-// What the widths are said of.
+// Bounds are said of types, so that `Words: Width<WORDS>` stands for the bound on a number of words.
 pub struct Words;
 
 impl Width<1> for Words {

@@ -2,16 +2,16 @@
 use Rattle.std.proofs.Common.{◌≡◌, ℕ, zero, suc, ◌+◌, ◌*◌, ◌/◌, ◌%◌, ◌<◌, Bool, true, false, cond, ◌&&◌, eqb, ◌⊎◌, ◌↔◌, List, [], ◌∷◌, get_or, is_some, Some, None, Option, sym, refl, ap, ◌∙◌, ap₂, inl, inr, arith}
 use Rattle.std.proofs.lemmas.Bool.{cases_eq, cases_Bool, both_ways, and_parts, and_from, and_left, and_right, eq-eqb, ne_eqb}
 use Rattle.std.proofs.lemmas.Bool.Decides.{same_from_decides}
-use Rattle.states.specs.Sets.{State}
-use Rattle.states.specs.Sets.{has, has_rule}
+use Rattle.states.specs.Sets.{State, has, has_rule}
 use Rattle.states.proofs.Members.{same_members, same_rules}
 use Rattle.books.specs.Meaning.{touches, is}
 use Rattle.books.specs.Changes.{Elsewhere}
 use Rattle.books.specs.Texts.{after, meets}
+use Rattle.books.proofs.Touching.{touched}
 use Rattle.templates.specs.declared.book.TemplateBook.{TemplateBook}
 use Rattle.templates.specs.Templates.{owned, Template, OthersStay}
 use Rattle.templates.specs.Tables.{at}
-use Rattle.templates.specs.Laws.{meaning, in_force, same_set, owner_is, owner_from, touched, takes_inside, next_zero, next_is, ended_by}
+use Rattle.templates.specs.Laws.{meaning, in_force, same_set, owner_is, owner_from, takes_inside, next_zero, next_is, ended_by}
 
 -- but for rule r and its positions, the books hold the same
 pub record Alike (r : ℕ) (a b : TemplateBook) : Type 0 where

@@ -2,16 +2,17 @@
 use Rattle.std.proofs.Common.{◌≡◌, ℕ, suc, ◌+◌, ◌-◌, ◌*◌, ◌/◌, ◌%◌, ◌<◌, ◌≤◌, Bool, true, false, cond, not, ◌&&◌, ◌||◌, eqb, leb, ◌⊎◌, List, length, get_or, set, is_some, Some, None, Option, sym, refl, ap, ◌∙◌, subst, ap₂, inl, inr, arith, get_or-set_other}
 use Rattle.std.proofs.lemmas.Bool.{cases_eq, cases_lt, cases_Bool, both_ways, and_parts, and_from, and_left, and_right, eqb-true, eq-eqb, ne_eqb, le-leb, lt-leb}
 use Rattle.std.proofs.lemmas.Bool.Decides.{same_from_decides}
-use Rattle.states.specs.Sets.{State}
-use Rattle.states.specs.Sets.{has, has_rule}
+use Rattle.std.proofs.Math.Bool.{and-true, or-false}
+use Rattle.states.specs.Sets.{State, has, has_rule}
 use Rattle.states.proofs.Members.{has_set_of}
 use Rattle.books.specs.Meaning.{is}
 use Rattle.books.specs.Changes.{Added, Deleted}
 use Rattle.books.specs.Texts.{after, meets}
+use Rattle.books.proofs.Touching.{fails}
 use Rattle.templates.specs.declared.book.TemplateBook.{TemplateBook}
 use Rattle.templates.specs.Templates.{owned, takes_at, Template}
-use Rattle.templates.specs.Tables.{at, takes_at_past, or_false, and_true}
-use Rattle.templates.specs.Laws.{meaning, in_force, passes, fails_set, owner_is, owner_from, rule_below, takes_inside, next_from, next_is, ended_by, fails}
+use Rattle.templates.specs.Tables.{at, takes_at_past}
+use Rattle.templates.specs.Laws.{meaning, in_force, passes, fails_set, owner_is, owner_from, rule_below, takes_inside, next_from, next_is, ended_by}
 use Rattle.templates.proofs.Invariants.{kind_written}
 use Rattle.templates.proofs.Alike.{Alike, untouched, start_same, elsewhere}
 
@@ -42,8 +43,8 @@ module _ (a b : TemplateBook) (r k : ℕ) (t : List ℕ) (low : r < 8) (free : g
   pub add_alike : Alike r a b
   add_alike = record {
     kinds = kind_other a b r (Some k) low kinds;
-    takes = λ c p d. takes c p ∙ ap (λ (x : Bool). at a.takes c p || x) (outside c p d) ∙ or_false (at a.takes c p);
-    ends = λ p d. ends p ∙ ap (λ (x : Bool). has a.ends p || x) (ne_eqb p (32 * r + length t) (λ e. d (omega arith))) ∙ or_false (has a.ends p);
+    takes = λ c p d. takes c p ∙ ap (λ (x : Bool). at a.takes c p || x) (outside c p d) ∙ or-false (at a.takes c p);
+    ends = λ p d. ends p ∙ ap (λ (x : Bool). has a.ends p || x) (ne_eqb p (32 * r + length t) (λ e. d (omega arith))) ∙ or-false (has a.ends p);
   }
     where
       outside : (c p : ℕ) → (p / 32 ≡ r → ⊥) → (leb (32 * r) p && takes_at t (p - 32 * r) c) ≡ false
@@ -129,8 +130,8 @@ module _ (a b : TemplateBook) (r : ℕ) (force : in_force a r ≡ true) (kinds :
   pub delete_alike : Alike r a b
   delete_alike = record {
     kinds = kind_other a b r None (rule_below a r force) kinds;
-    takes = λ c p d. takes c p ∙ ap (λ (x : Bool). at a.takes c p && not x) (ne_eqb (p / 32) r d) ∙ and_true (at a.takes c p);
-    ends = λ p d. ends p ∙ ap (λ (x : Bool). has a.ends p && not x) (ne_eqb (p / 32) r d) ∙ and_true (has a.ends p);
+    takes = λ c p d. takes c p ∙ ap (λ (x : Bool). at a.takes c p && not x) (ne_eqb (p / 32) r d) ∙ and-true (at a.takes c p);
+    ends = λ p d. ends p ∙ ap (λ (x : Bool). has a.ends p && not x) (ne_eqb (p / 32) r d) ∙ and-true (has a.ends p);
   }
 
   removed_kind : get_or b.kinds.by_rule r None ≡ None

@@ -2,13 +2,13 @@
 use Rattle.std.proofs.Common.{◌≡◌, ℕ, zero, suc, ◌+◌, ◌-◌, ◌*◌, ◌/◌, ◌%◌, ◌<◌, ◌≤◌, Bool, true, false, not, ◌&&◌, ◌||◌, eqb, ltb, leb, ◌⊎◌, List, length, get_or, set, replicate, is_some, Some, None, Option, sym, refl, ap, ◌∙◌, inl, inr, arith, get_or-set_other, get_or-set_same}
 use Rattle.std.proofs.lemmas.Bool.{cases_eq, cases_lt, cases_Bool, both_ways, and_parts, and_from, or_cases, eqb-true, eq-eqb, ne_eqb, leb-true, lt-ltb}
 use Rattle.std.proofs.lemmas.Bool.Decides.{nat_tests}
-use Rattle.states.specs.Sets.{State}
+use Rattle.std.proofs.Math.Bool.{and-true, or-false}
+use Rattle.states.specs.Sets.{State, has, has_rule, rules_of}
 use Rattle.states.specs.Words.{some}
-use Rattle.states.specs.Sets.{has, has_rule, rules_of}
 use Rattle.states.proofs.Members.{has_nothing}
 use Rattle.templates.specs.declared.book.TemplateBook.{TemplateBook}
 use Rattle.templates.specs.Templates.{owned, takes_at}
-use Rattle.templates.specs.Tables.{at, or_false, and_true, takes_at_past}
+use Rattle.templates.specs.Tables.{at, takes_at_past}
 use Rattle.templates.specs.Laws.{in_force, takes_inside, ends_by}
 
 -- ---- the empty book
@@ -53,7 +53,7 @@ module _ (a : TemplateBook) (r k : ℕ) (low : r < 8) where
   pub put_lives : (p : ℕ) → (has a.live p || eqb (p / 32) r) ≡ owned after_put p
   put_lives p = elim (cases_eq (p / 32) r) [
     | inl e ↦ ap (λ (x : Bool). has a.live p || x) (eq-eqb (p / 32) r e) ∙ or_true (has a.live p) ∙ sym (owned_here a r (Some k) low p e)
-    | inr d ↦ ap (λ (x : Bool). has a.live p || x) (ne_eqb (p / 32) r d) ∙ or_false (has a.live p) ∙ a.lives p ∙ sym (owned_other a r (Some k) low p d)
+    | inr d ↦ ap (λ (x : Bool). has a.live p || x) (ne_eqb (p / 32) r d) ∙ or-false (has a.live p) ∙ a.lives p ∙ sym (owned_other a r (Some k) low p d)
   ]
     where
       or_true : (x : Bool) → (x || true) ≡ true
@@ -64,7 +64,7 @@ module _ (a : TemplateBook) (r k : ℕ) (low : r < 8) where
   put_starts free p = elim (cases_eq (p / 32) r) [
     | inl e ↦ ap (λ (x : Bool). x || eqb p (32 * r)) (a.starts p ∙ ap (λ (x : Bool). x && eqb (p % 32) 0) (ap (in_force a) e ∙ ap is_some free))
         ∙ first e ∙ ap (λ (x : Bool). x && eqb (p % 32) 0) (sym (owned_here a r (Some k) low p e))
-    | inr d ↦ ap (λ (x : Bool). has a.start p || x) (ne_eqb p (32 * r) (λ e. d (omega arith))) ∙ or_false (has a.start p) ∙ a.starts p
+    | inr d ↦ ap (λ (x : Bool). has a.start p || x) (ne_eqb p (32 * r) (λ e. d (omega arith))) ∙ or-false (has a.start p) ∙ a.starts p
         ∙ ap (λ (x : Bool). x && eqb (p % 32) 0) (sym (owned_other a r (Some k) low p d))
   ]
     where
@@ -101,30 +101,12 @@ module _ (a : TemplateBook) (r : ℕ) (low : r < 8) where
   pub removal_owned : (p : ℕ) → (owned a.kinds.by_rule p && not (eqb (p / 32) r)) ≡ owned after_removal p
   removal_owned p = elim (cases_eq (p / 32) r) [
     | inl e ↦ ap (λ (x : Bool). owned a.kinds.by_rule p && not x) (eq-eqb (p / 32) r e) ∙ and_false (owned a.kinds.by_rule p) ∙ sym (owned_here a r None low p e)
-    | inr d ↦ ap (λ (x : Bool). owned a.kinds.by_rule p && not x) (ne_eqb (p / 32) r d) ∙ and_true (owned a.kinds.by_rule p) ∙ sym (owned_other a r None low p d)
+    | inr d ↦ ap (λ (x : Bool). owned a.kinds.by_rule p && not x) (ne_eqb (p / 32) r d) ∙ and-true (owned a.kinds.by_rule p) ∙ sym (owned_other a r None low p d)
   ]
     where
       and_false : (x : Bool) → (x && false) ≡ false
       and_false true = refl
       and_false false = refl
-
-  pub removal_lives : (p : ℕ) → (has a.live p && not (eqb (p / 32) r)) ≡ owned after_removal p
-  removal_lives p = ap (λ (x : Bool). x && not (eqb (p / 32) r)) (a.lives p) ∙ removal_owned p
-
-  pub removal_starts : (p : ℕ) → (has a.start p && not (eqb (p / 32) r)) ≡ (owned after_removal p && eqb (p % 32) 0)
-  removal_starts p =
-      ap (λ (x : Bool). x && not (eqb (p / 32) r)) (a.starts p) ∙ swap (owned a.kinds.by_rule p) (eqb (p % 32) 0) (not (eqb (p / 32) r))
-      ∙ ap (λ (x : Bool). x && eqb (p % 32) 0) (removal_owned p)
-    where
-      swap : (x y z : Bool) → ((x && y) && z) ≡ ((x && z) && y)
-      swap true true true = refl
-      swap true true false = refl
-      swap true false true = refl
-      swap true false false = refl
-      swap false y z = refl
-
-  pub removal_ending : (p : ℕ) → (has a.ends p && not (eqb (p / 32) r)) ≡ true → owned after_removal p ≡ true
-  removal_ending p h = let w = and_parts (has a.ends p) (not (eqb (p / 32) r)) h in sym (removal_owned p) ∙ and_from _ _ (a.ending p w.0) w.1
 
   pub removal_taking : (c p : ℕ) → (at a.takes c p && not (eqb (p / 32) r)) ≡ true → (owned after_removal p && ltb (p % 32) 31) ≡ true
   removal_taking c p h =

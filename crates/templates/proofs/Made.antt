@@ -3,10 +3,8 @@ use Rattle.std.proofs.Common.{◌≡◌, ℕ, zero, suc, ◌+◌, ◌/◌, ◌<�
 use Rattle.std.proofs.lemmas.List.{get_or_default}
 use Rattle.std.proofs.lemmas.Bool.{and_parts, and_from, eqb-true, eq-eqb, lt-ltb}
 use Rattle.std.proofs.lemmas.Bool.Decides.{same_from_decides}
-use Rattle.states.specs.Sets.{State}
-use Rattle.states.specs.Sets.{Rules}
+use Rattle.states.specs.Sets.{State, Rules, has, has_rule}
 use Rattle.states.specs.Words.{Gathers}
-use Rattle.states.specs.Sets.{has, has_rule}
 use Rattle.states.proofs.Members.{is_set_of, same_rules}
 use Rattle.templates.specs.declared.book.TemplateBook.{TemplateBook}
 use Rattle.templates.specs.Templates.{leads}

@@ -2,8 +2,7 @@
 use Rattle.std.proofs.Common.{◌≡◌, ℕ, zero, suc, ◌+◌, ◌*◌, ◌<◌, ◌≤◌, true, false, ◌↔◌, List, [], ◌∷◌, length, drop, Decides, sym, refl, ap, ◌∙◌, subst, inl, inr, add-zero, add-one, arith}
 use Rattle.std.proofs.lemmas.List.{drop_all}
 use Rattle.std.proofs.lemmas.Bool.{both_ways, and_parts, and_from, cases_lt, eqb-true}
-use Rattle.states.specs.Sets.{State}
-use Rattle.states.specs.Sets.{has, has_rule}
+use Rattle.states.specs.Sets.{State, has, has_rule}
 use Rattle.books.specs.Meaning.{Meaning}
 use Rattle.books.specs.Texts.{after, meets}
 use Rattle.templates.specs.Templates.{takes_at, Fits, Template}

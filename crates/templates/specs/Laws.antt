@@ -3,11 +3,11 @@ use Rattle.std.specs.Prelude.{◌≡◌, ℕ, zero, suc, ◌/◌, ◌%◌, ◌<�
 use Rattle.std.proofs.Common.{sym, ap, ◌∙◌, inl, inr, arith}
 use Rattle.std.proofs.lemmas.List.{get_or_past}
 use Rattle.std.proofs.lemmas.Bool.{cases_lt, cases_Bool, both_ways, and_parts, and_from, and_right, ltb-true, eqb-true, eq-eqb}
-use Rattle.states.specs.Sets.{State}
+use Rattle.states.specs.Sets.{State, has, has_rule, set_of, rules_of}
 use Rattle.states.specs.Words.{some}
-use Rattle.states.specs.Sets.{has, has_rule, set_of, rules_of}
 use Rattle.states.proofs.Members.{has_set_of, has_above, has_rule_rules_of, member_below, some_member, rules_above}
 use Rattle.books.specs.Meaning.{Meaning, Lawful, Live, touches, is}
+use Rattle.books.proofs.Touching.{touched, fails}
 use Rattle.templates.specs.declared.book.TemplateBook.{TemplateBook}
 use Rattle.templates.specs.Templates.{owned, leads, template_meaning}
 use Rattle.templates.specs.Tables.{at}
@@ -64,11 +64,6 @@ rule_below b r e = elim (cases_lt r 8) [
       let out : length b.kinds.by_rule ≤ r = omega arith in
       absurd (both_ways (in_force b r) (ap is_some (get_or_past b.kinds.by_rule r None out)) e))
 ]
-
--- s holds a position of rule r
-pub touched : (m : Meaning) (r : ℕ) (s : State) → Decides (touches m r s) ((p : ℕ) × (has s p ≡ true) × (is (m.owner p) r ≡ true))
-unfolding touches
-touched m r s = some_member s (λ p. is (m.owner p) r)
 
 -- ---- steps
 
@@ -146,11 +141,6 @@ module _ (b : TemplateBook) where
   ends r s e =
       let w = (ended_by b s r).0 e in
       (touched (meaning b) r s).1 (w.0, w.1, owner_is b w.0 r ∙ and_from _ _ (b.ending w.0 w.2) (eq-eqb (w.0 / 32) r w.3))
-
--- what fails of the second fails of the first
-pub fails : (x y : Bool) → (x ≡ true → y ≡ true) → y ≡ false → x ≡ false
-fails true y h e = absurd (both_ways y e (h refl))
-fails false y h e = refl
 
 pub template_lawful : (b : TemplateBook) → Lawful (meaning b)
 template_lawful b = record {

@@ -4,8 +4,8 @@ use Rattle.std.proofs.Common.{sym, ap, ap₂, ◌∙◌, subst, inl, inr, arith,
 use Rattle.std.proofs.lemmas.List.{get_or_past, get_or_default}
 use Rattle.std.proofs.lemmas.Bool.{cases_lt, cases_eq, lt-ltb, le-ltb, le-leb, lt-leb, eq-eqb, ne_eqb, and_left}
 use Rattle.std.proofs.lemmas.Bool.Decides.{nat_tests}
-use Rattle.states.specs.Sets.{State}
-use Rattle.states.specs.Sets.{has, nothing}
+use Rattle.std.proofs.Math.Bool.{and-true, or-false}
+use Rattle.states.specs.Sets.{State, has, nothing}
 use Rattle.states.proofs.Members.{has_nothing}
 use Rattle.templates.specs.Templates.{takes_byte, takes_at}
 
@@ -21,14 +21,6 @@ pub span_all : (r p : ℕ) → (nat_le (32 * r) p && nat_lt p (32 * r + 32)) ≡
 span_all r p = grind (arith, nat_tests)
 
 -- ---- one entry written
-
-pub and_true : (b : Bool) → (b && true) ≡ b
-and_true true = refl
-and_true false = refl
-
-pub or_false : (b : Bool) → (b || false) ≡ b
-or_false true = refl
-or_false false = refl
 
 -- the table holds position p for code c
 abbrev pub at : List State → ℕ → ℕ → Bool
@@ -53,7 +45,7 @@ abbrev pub Cleared : List State → List State → State → ℕ → Type 0
 Cleared old new away k = (c p : ℕ) → at new c p ≡ (at old c p && not (nat_lt c k && has away p))
 
 pub clear_none : (ts : List State) (away : State) → Cleared ts ts away 0
-clear_none ts away c p = sym (ap (λ (b : Bool). at ts c p && not (b && has away p)) (le-ltb c 0 (omega arith)) ∙ and_true (at ts c p))
+clear_none ts away c p = sym (ap (λ (b : Bool). at ts c p && not (b && has away p)) (le-ltb c 0 (omega arith)) ∙ and-true (at ts c p))
 
 pub clear_more : (old new : List State) (away x y : State) (k : ℕ) → Cleared old new away k → k < length new
     → ((p : ℕ) → has y p ≡ (has (slice_index_or new k x) p && not (has away p))) → Cleared old (slice_set new k y) away (k + 1)
@@ -61,7 +53,7 @@ clear_more old new away x y k inv l gone c p = elim (cases_eq c k) [
   | inl e ↦ subst (λ (c : ℕ). at (slice_set new k y) c p ≡ (at old c p && not (nat_lt c (k + 1) && has away p))) (sym e)
       (at_written new k y p l ∙ gone p ∙ ap (λ (b : Bool). b && not (has away p)) (at_read new k x p l ∙ inv k p)
       ∙ ap (λ (b : Bool). (at old k p && not (b && has away p)) && not (has away p)) (le-ltb k k (omega arith))
-      ∙ ap (λ (b : Bool). b && not (has away p)) (and_true (at old k p))
+      ∙ ap (λ (b : Bool). b && not (has away p)) (and-true (at old k p))
       ∙ ap (λ (b : Bool). at old k p && not (b && has away p)) (sym (lt-ltb k (k + 1) (omega arith))))
   | inr d ↦ at_other new k y p c d ∙ inv c p ∙ ap (λ (b : Bool). at old c p && not (b && has away p)) (below c d)
 ]
@@ -129,10 +121,10 @@ place_more old new more first t i byte low end inv l is codes put c p = elim (ca
       let more_now : ltb (p - first) (i + 1) ≡ true = lt-ltb (p - first) (i + 1) (omega arith) in
       put c p
       ∙ ap₂ (λ (a b : Bool). a || (b && (nat_le low c && nat_lt c end))) (inv c p ∙ ap (λ (b : Bool). at old c p || (nat_le first p && (b && takes_at t (p - first) c))) no_more
-      ∙ ap (λ (b : Bool). at old c p || (b && false)) le ∙ or_false (at old c p)) (eq-eqb p (first + i) e)
+      ∙ ap (λ (b : Bool). at old c p || (b && false)) le ∙ or-false (at old c p)) (eq-eqb p (first + i) e)
       ∙ ap (λ (b : Bool). at old c p || b) (sym (ap₂ (λ (a b : Bool). a && (b && takes_at t (p - first) c)) le more_now ∙ ap (λ (j : ℕ). takes_at t j c) j ∙ same)))
   | inr d ↦ put c p ∙ ap₂ (λ (a b : Bool). a || (b && (nat_le low c && nat_lt c end))) (inv c p) (ne_eqb p (first + i) d)
-      ∙ or_false (at old c p || (nat_le first p && (nat_lt (p - first) i && takes_at t (p - first) c)))
+      ∙ or-false (at old c p || (nat_le first p && (nat_lt (p - first) i && takes_at t (p - first) c)))
       ∙ ap (λ (b : Bool). at old c p || b) (elsewhere (takes_at t (p - first) c) d)
 ]
   where

@@ -1,8 +1,7 @@
 -- Templates, the texts that fit them, and the template book as positions and states.
 use Rattle.std.specs.Prelude.{◌≡◌, ℕ, zero, suc, ◌+◌, ◌*◌, ◌/◌, ◌%◌, ◌<◌, Bool, true, false, cond, ◌&&◌, ◌↔◌, List, [], ◌∷◌, ◌++◌, length, is_some, Some, None, Option, ◌==◌, ◌≢◌, nat_le, slice_index_or}
-use Rattle.states.specs.Sets.{State}
+use Rattle.states.specs.Sets.{State, has, has_rule, nothing, set_of, rules_of}
 use Rattle.states.specs.Words.{some}
-use Rattle.states.specs.Sets.{has, has_rule, nothing, set_of, rules_of}
 use Rattle.books.specs.Meaning.{Meaning, Model, counting, is}
 use Rattle.books.specs.Changes.{first_no, new_rule}
 use Rattle.books.specs.Texts.{meets}

@@ -1,6 +1,7 @@
 // The template book itself, apart from its operations, whose contracts name it.
-ghost use Rattle.std.specs.Prelude.{◌≡◌, ℕ, ◌%◌, true, ◌&&◌, length, ◌==◌, nat_lt, slice_index_or};
-ghost use Rattle.states.specs.Sets.{has, nothing};
+ghost use Rattle.std.specs.Prelude.{◌≡◌, ℕ, ◌%◌, true, ◌&&◌, length, ◌==◌, nat_lt};
+ghost use Rattle.states.specs.Sets.{has};
+ghost use Rattle.templates.specs.Tables.{at};
 ghost use Rattle.templates.specs.Templates.{owned};
 
 use books::Kinds;
@@ -19,7 +20,7 @@ pub(crate) const RULES: usize = 8;
 #[derive(Drop)]
 pub struct TemplateBook {
     kinds: Kinds<RULES>,
-    // by code: the positions that take it
+    // by code, of which there are 256, so that an array is the map: the positions that take it
     takes: [State; 256],
     live: State,
     start: State,
@@ -27,9 +28,10 @@ pub struct TemplateBook {
     ends: State,
     asked: u32,
     ghost size: { length takes ≡ 256 },
+    // `owned` goes by the whole list of kinds, so that it is named here and in what a change makes of it
     ghost lives: { (p : ℕ) → has live p ≡ owned kinds.by_rule p },
     ghost starts: { (p : ℕ) → has start p ≡ (owned kinds.by_rule p && p % 32 == 0) },
     ghost ending: { (p : ℕ) → has ends p ≡ true → owned kinds.by_rule p ≡ true },
     // what takes a code is not the last position of its rule
-    ghost taking: { (c p : ℕ) → has (slice_index_or takes c nothing) p ≡ true → (owned kinds.by_rule p && nat_lt (p % 32) 31) ≡ true },
+    ghost taking: { (c p : ℕ) → at takes c p ≡ true → (owned kinds.by_rule p && nat_lt (p % 32) 31) ≡ true },
 }

@@ -13,7 +13,7 @@ mod tests {
     use books::{Book, BookFault, ChangingBook, Noted};
     use states::Rules;
 
-    // The rules that a whole text meets.
+    // The rules that a whole text meets. A test's helper is its crate's own.
     fn met(book: &mut TemplateBook, text: &[u8]) -> Rules {
         let mut state = book.start();
         for byte in text {
@@ -22,19 +22,16 @@ mod tests {
         book.ended(state)
     }
 
-    // The refusal's number, or 0.
-    fn number(answer: Result<(), BookFault>) -> u8 {
-        match answer {
-            Ok(()) => 0,
-            Err(fault) => fault.tell().number,
-        }
+    // A change's answer, with the refusal by its number.
+    fn number(answer: Result<(), BookFault>) -> Result<(), u8> {
+        answer.map_err(|fault| fault.tell().number)
     }
 
     #[test]
     fn reads_digits_and_any_byte(rt: HostRuntime) {
         let mut book = TemplateBook::new();
-        assert_eq!(rt; number(book.add(3, 7, b"k##")), 0);
-        assert_eq!(rt; number(book.add(7, 4095, b"k?x")), 0);
+        assert_eq!(rt; number(book.add(3, 7, b"k##")), Ok(()));
+        assert_eq!(rt; number(book.add(7, 4095, b"k?x")), Ok(()));
         assert!(rt; met(&mut book, b"k42").holds(3));
         assert!(rt; !met(&mut book, b"k4x").holds(3));
         assert!(rt; met(&mut book, b"k4x").holds(7));
@@ -46,10 +43,10 @@ mod tests {
     #[test]
     fn number_is_free_after_a_deletion(rt: HostRuntime) {
         let mut book = TemplateBook::new();
-        assert_eq!(rt; number(book.add(5, 1, b"#")), 0);
-        assert_eq!(rt; number(book.delete(5)), 0);
+        assert_eq!(rt; number(book.add(5, 1, b"#")), Ok(()));
+        assert_eq!(rt; number(book.delete(5)), Ok(()));
         assert!(rt; met(&mut book, b"1").is_empty());
-        assert_eq!(rt; number(book.add(5, 2, b"ok")), 0);
+        assert_eq!(rt; number(book.add(5, 2, b"ok")), Ok(()));
         assert!(rt; met(&mut book, b"1").is_empty());
         assert!(rt; met(&mut book, b"ok").holds(5));
     }
@@ -57,12 +54,12 @@ mod tests {
     #[test]
     fn first_no_decides(rt: HostRuntime) {
         let mut book = TemplateBook::new();
-        assert_eq!(rt; number(book.add(8, 4096, b"")), 2);
-        assert_eq!(rt; number(book.add(0, 4096, b"")), 3);
-        assert_eq!(rt; number(book.add(0, 0, b"")), 5);
-        assert_eq!(rt; number(book.add(0, 0, &[b'a'; 32])), 5);
-        assert_eq!(rt; number(book.add(0, 0, &[b'a'; 31])), 0);
-        assert_eq!(rt; number(book.add(0, 0, b"")), 4);
-        assert_eq!(rt; number(book.delete(1)), 13);
+        assert_eq!(rt; number(book.add(8, 4096, b"")), Err(2));
+        assert_eq!(rt; number(book.add(0, 4096, b"")), Err(3));
+        assert_eq!(rt; number(book.add(0, 0, b"")), Err(5));
+        assert_eq!(rt; number(book.add(0, 0, &[b'a'; 32])), Err(5));
+        assert_eq!(rt; number(book.add(0, 0, &[b'a'; 31])), Ok(()));
+        assert_eq!(rt; number(book.add(0, 0, b"")), Err(4));
+        assert_eq!(rt; number(book.delete(1)), Err(13));
     }
 }

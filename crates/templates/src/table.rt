@@ -1,6 +1,7 @@
 // The table of the positions that take each code, and a rule's positions.
-ghost use Rattle.std.specs.Prelude.{◌≡◌, ℕ, ◌+◌, ◌-◌, ◌/◌, ◌<◌, ◌≤◌, not, ◌&&◌, ◌||◌, length, ◌==◌, nat_le, nat_lt, slice_index_or};
-ghost use Rattle.states.specs.Sets.{has, nothing};
+ghost use Rattle.std.specs.Prelude.{◌≡◌, ℕ, ◌+◌, ◌-◌, ◌/◌, ◌<◌, ◌≤◌, not, ◌&&◌, ◌||◌, length, ◌==◌, nat_le, nat_lt};
+ghost use Rattle.states.specs.Sets.{has};
+ghost use Rattle.templates.specs.Tables.{at};
 ghost use Rattle.templates.specs.Templates.{takes_byte, takes_at};
 
 use crate::book::RULES;
@@ -15,19 +16,16 @@ pub(crate) const SPAN: u8 = 32;
 pub(crate) fn block(rule: Rule<RULES>) -> State
     ensures { (p : ℕ) → has result p ≡ (p / 32 == rule.number) }
 {
-    let mut out = State::empty();
-    for i in 0..SPAN {
-        out = out.with(SPAN * rule.number + i);
-    }
-    out
+    let first = SPAN * rule.number;
+    State::empty().with_range(first, first + (SPAN - 1))
 }
 
 // Lets the positions from `first` on take what the bytes of the template take.
 pub(crate) fn place(takes: &mut [State; 256], first: u8, template: &[u8])
     requires { first + length template.now < 256 }
     ensures size { length takes.new ≡ 256 }
-    ensures members { (c p : ℕ) → has (slice_index_or takes.new c nothing) p
-        ≡ (has (slice_index_or takes.old c nothing) p || (nat_le first p && takes_at template.now (p - first) c)) }
+    ensures members { (c p : ℕ) → at takes.new c p
+        ≡ (at takes.old c p || (nat_le first p && takes_at template.now (p - first) c)) }
 {
     for (i, byte) in template.iter().enumerate() {
         let codes = codes_of(*byte);
@@ -35,11 +33,12 @@ pub(crate) fn place(takes: &mut [State; 256], first: u8, template: &[u8])
     }
 }
 
-// Takes the positions out of the whole table.
+// Takes the positions out of the whole table: it goes by code, so that no members tell which entries hold some, as they do in the
+// expression book, whose rows go by position.
 pub(crate) fn clear(takes: &mut [State; 256], positions: State)
     ensures size { length takes.new ≡ 256 }
-    ensures members { (c p : ℕ) → has (slice_index_or takes.new c nothing) p
-        ≡ (has (slice_index_or takes.old c nothing) p && not (has positions p)) }
+    ensures members { (c p : ℕ) → at takes.new c p
+        ≡ (at takes.old c p && not (has positions p)) }
 {
     for entry in takes.iter_mut() {
         *entry = entry.without(positions);
@@ -59,12 +58,12 @@ fn codes_of(byte: u8) -> Range<usize>
 }
 
 // Lets a position take the codes.
-fn mark(takes: &mut [State; 256], codes: Range<usize>, at: u8)
+fn mark(takes: &mut [State; 256], codes: Range<usize>, position: u8)
     requires { (codes.start ≤ codes.end) × (codes.end ≤ 256) }
-    ensures { (c p : ℕ) → has (slice_index_or takes.new c nothing) p
-        ≡ (has (slice_index_or takes.old c nothing) p || (p == at && (nat_le codes.start c && nat_lt c codes.end))) }
+    ensures { (c p : ℕ) → at takes.new c p
+        ≡ (at takes.old c p || (p == position && (nat_le codes.start c && nat_lt c codes.end))) }
 {
-    for code in codes.start..codes.end {
-        takes[code] = takes[code].with(at);
+    for entry in takes[codes].iter_mut() {
+        *entry = entry.with(position);
     }
 }

@@ -1,7 +1,7 @@
 // Adding expressions to the book and deleting them.
-ghost use Rattle.std.specs.Prelude.{◌≡◌, MatchResult, OnOk};
+ghost use Rattle.std.specs.Prelude.{◌≡◌, OnOk};
 ghost use Rattle.std.specs.Result.{result_err};
-ghost use Rattle.books.specs.Changes.{Added, Deleted, Changed, delete_refusal};
+ghost use Rattle.books.specs.Changes.{Added, Deleted, ChangesUnless, delete_refusal};
 ghost use Rattle.expressions.specs.Rules.{refusal as expression_refusal};
 ghost use Rattle.expression_book.specs.Tables.{book_meaning, book_model};
 ghost use Rattle.expression_book.specs.Promises.{Denoting, ExpressionAdded, ExpressionDeleted};
@@ -23,9 +23,7 @@ impl<S: Symbol> ChangingBook for ExpressionBook<S> {
     // Reads the bytes twice, and touches a row for each last position of what a command links.
     fn add(&mut self, rule: u32, kind: u32, bytes: &[u8]) -> Result<(), BookFault>
         ensures answer { result_err result ≡ expression_refusal S.Symbol.LAST (book_meaning self.old) rule kind bytes.now }
-        ensures change { MatchResult result
-            (λ _. Changed (Added rule kind) (book_model self.old) (book_model self.new))
-            (λ _. self.new ≡ self.old) }
+        ensures change { ChangesUnless result (Added rule kind) book_model self.old self.new }
         ensures grown { OnOk result (ExpressionAdded S.Symbol.LAST rule bytes.now
             (book_meaning self.old) (book_meaning self.new)) }
         ensures denoting { Denoting (book_meaning self.old) → Denoting (book_meaning self.new) }
@@ -37,9 +35,7 @@ impl<S: Symbol> ChangingBook for ExpressionBook<S> {
     // not in force.
     fn delete(&mut self, rule: u32) -> Result<(), BookFault>
         ensures answer { result_err result ≡ delete_refusal (book_meaning self.old) rule }
-        ensures change { MatchResult result
-            (λ _. Changed (Deleted rule) (book_model self.old) (book_model self.new))
-            (λ _. self.new ≡ self.old) }
+        ensures change { ChangesUnless result (Deleted rule) book_model self.old self.new }
         ensures shrunk { OnOk result (ExpressionDeleted rule (book_meaning self.old) (book_meaning self.new)) }
         ensures denoting { Denoting (book_meaning self.old) → Denoting (book_meaning self.new) }
     {

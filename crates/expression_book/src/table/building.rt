@@ -8,14 +8,14 @@ ghost use Rattle.expression_book.specs.Building.{Building, Ready, Roomy, Puts};
 ghost use Rattle.expression_book.specs.Tables.{table_meaning};
 
 use crate::part::Part;
-use crate::table::Table;
+use crate::table::{RULES, Table};
 use arrayvec::ArrayVec;
 use books::Rule;
 use expressions::{CodeRange, Command, MOST, step};
 
 impl Table {
     // Puts the rule that the bytes spell in force. Its end is one more symbol, behind all others, that takes no code.
-    pub(crate) fn put(&mut self, rule: Rule<64>, bytes: &[u8], last: u16)
+    pub(crate) fn put(&mut self, rule: Rule<RULES>, bytes: &[u8], last: u16)
         requires free { (table_meaning self.old).kind rule.number ≡ None }
         requires roomy { Roomy last bytes.now self.old }
         ensures { (e : Plain) → read_all last bytes.now ≡ Ok e → Puts rule.number rule.kind e self.old self.new }
@@ -28,7 +28,7 @@ impl Table {
         self.ends = self.ends.union(end.first);
     }
 
-    // Builds the expression that the bytes spell, and answers its part.
+    // Builds the expression that the bytes spell, and answers its part. That the rule is in force is asked in a clause, as in `give`.
     fn build(&mut self, rule: u8, bytes: &[u8], last: u16) -> Part
         requires force { is_some ((table_meaning self.old).kind rule) ≡ true }
         requires roomy { Roomy last bytes.now self.old }
@@ -37,6 +37,7 @@ impl Table {
     {
         let mut waiting = ArrayVec::new();
         let mut rest = bytes;
+        // the project's form for a run, as in `check`
         while let [letter, behind @ ..] = rest {
             // the run was checked before anything was changed, so each step is taken
             let (command, tail) = step(*letter, behind, last, waiting.len()).unwrap();

@@ -1,14 +1,15 @@
 // Adding rules to the table and deleting them.
-ghost use Rattle.std.specs.Prelude.{◌≡◌, ℕ, false, List, MatchResult, IfOk, OnOk};
+ghost use Rattle.std.specs.Prelude.{◌≡◌, ℕ, false, List, IfOk, OnOk};
 ghost use Rattle.std.specs.Result.{result_err};
 ghost use Rattle.states.specs.Sets.{has_rule};
-ghost use Rattle.books.specs.Changes.{Added, Deleted, Changed, delete_refusal};
+ghost use Rattle.books.specs.Changes.{Added, Deleted, ChangesUnless, delete_refusal};
+ghost use Rattle.books.specs.Kinds.{IsRule};
 ghost use Rattle.books.specs.Texts.{meets};
 ghost use Rattle.expressions.specs.Rules.{refusal};
 ghost use Rattle.expression_book.specs.Tables.{table_meaning, table_model};
 ghost use Rattle.expression_book.specs.Promises.{Adopts, OthersStay};
 
-use crate::table::Table;
+use crate::table::{RULES, Table};
 use books::{BookFault, Rule};
 use expressions::check;
 
@@ -19,7 +20,8 @@ const LONGEST: usize = 1024;
 const POSITIONS: usize = 256;
 
 impl Table {
-    // Puts the expression in force, if every question gets a yes.
+    // Puts the expression in force, if every question gets a yes. The last code comes beside the bytes, since the table knows no kind of
+    // symbol, and is proved once for all.
     pub(crate) fn add(
         &mut self,
         rule: u32,
@@ -28,9 +30,7 @@ impl Table {
         last: u16,
     ) -> Result<(), BookFault>
         ensures answer { result_err result ≡ refusal last (table_meaning self.old) rule kind bytes.now }
-        ensures change { MatchResult result
-            (λ _. Changed (Added rule kind) (table_model self.old) (table_model self.new))
-            (λ _. self.new ≡ self.old) }
+        ensures change { ChangesUnless result (Added rule kind) table_model self.old self.new }
         ensures adopts { OnOk result (Adopts last rule bytes.now (table_meaning self.old) (table_meaning self.new)) }
         ensures others { OnOk result (OthersStay rule (table_meaning self.old) (table_meaning self.new)) }
     {
@@ -42,9 +42,7 @@ impl Table {
     // Takes the rule out of force, if it is.
     pub(crate) fn delete(&mut self, rule: u32) -> Result<(), BookFault>
         ensures answer { result_err result ≡ delete_refusal (table_meaning self.old) rule }
-        ensures change { MatchResult result
-            (λ _. Changed (Deleted rule) (table_model self.old) (table_model self.new))
-            (λ _. self.new ≡ self.old) }
+        ensures change { ChangesUnless result (Deleted rule) table_model self.old self.new }
         ensures texts { OnOk result ((text : List ℕ) → has_rule (meets (table_meaning self.new) text) rule ≡ false) }
         ensures others { OnOk result (OthersStay rule (table_meaning self.old) (table_meaning self.new)) }
     {
@@ -54,9 +52,9 @@ impl Table {
     }
 
     // Asks all questions about an adding, in their order, and answers the rule. Changes nothing.
-    fn ask(&self, rule: u32, kind: u32, bytes: &[u8], last: u16) -> Result<Rule<64>, BookFault>
+    fn ask(&self, rule: u32, kind: u32, bytes: &[u8], last: u16) -> Result<Rule<RULES>, BookFault>
         ensures answer { result_err result ≡ refusal last (table_meaning self.now) rule kind bytes.now }
-        ensures rule { IfOk result (λ it. (it.number ≡ rule) × (it.kind ≡ kind)) }
+        ensures rule { IfOk result (IsRule rule kind) }
     {
         let rule = self.kinds.new_rule(rule, kind)?;
         if bytes.len() > LONGEST {

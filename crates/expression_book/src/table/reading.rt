@@ -10,6 +10,7 @@ impl Table {
     pub(crate) fn next(&self, state: State, code: u16) -> State
         ensures { result ≡ (table_meaning self.now).next state code }
     {
+        // loops as in `states::follow`, which says why
         let mut out = State::empty();
         for p in state.members() {
             out = out.union(self.rows[p as usize].after(code));

@@ -5,13 +5,13 @@ ghost use Rattle.expression_book.specs.Rows.{blank, row};
 ghost use Rattle.expression_book.specs.Tables.{owns, Removes};
 
 use crate::row::Row;
-use crate::table::Table;
+use crate::table::{RULES, Table};
 use books::Rule;
 use states::State;
 
 impl Table {
     // Takes a rule out of force and frees its positions.
-    pub(crate) fn remove(&mut self, rule: Rule<64>)
+    pub(crate) fn remove(&mut self, rule: Rule<RULES>)
         ensures { Removes rule.number self.old self.new }
     {
         let gone = self.positions(rule.number);
@@ -36,7 +36,8 @@ impl Table {
     }
 }
 
-// Makes the rows of the positions blank.
+// Makes the rows of the positions blank, and touches these alone: rows go by position, where the template book's table goes by code
+// and is gone through whole.
 fn clear(rows: &mut [Row; 256], gone: State)
     ensures size { length rows.new ≡ 256 }
     ensures cleared { (p : ℕ) → has gone p ≡ true → row rows.new p ≡ blank }

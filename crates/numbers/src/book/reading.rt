@@ -22,9 +22,7 @@ impl Book for NumberBook {
     ghost lawful = { λ b. number_lawful };
 
     fn live(&self) -> State {
-        State {
-            words: [0b111111, 0, 0, 0],
-        }
+        State::empty().with_range(0, END)
     }
 
     fn start(&self) -> State {
@@ -45,6 +43,6 @@ impl Book for NumberBook {
     }
 
     fn kind(&self, rule: u32) -> Option<u16> {
-        if rule == 0 { Some(KIND) } else { None }
+        (rule == 0).then_some(KIND)
     }
 }

@@ -1,8 +1,10 @@
 // Sets made of numbers and of other sets. Each is stated by its members.
-ghost use Rattle.std.specs.Prelude.{◌≡◌, ℕ, ◌+◌, ◌-◌, ◌*◌, ◌<◌, false, not, ◌&&◌, ◌||◌, ◌==◌, nat_lt, slice_index};
+ghost use Rattle.std.specs.Prelude.{◌≡◌, ℕ, ◌+◌, ◌-◌, ◌*◌, ◌<◌, false, not, ◌&&◌, ◌||◌, ◌==◌, nat_le, nat_lt, slice_index};
 ghost use Rattle.states.specs.Sets.{has};
 
+use crate::State;
 use crate::set::{Set, Width, Words};
+use std::array;
 
 impl<const WORDS: usize> Set<WORDS>
 where
@@ -62,16 +64,18 @@ where
     }
 
     // The set whose words `op` makes of the words of two sets.
-    // It goes by index, since a proof learns nothing of what is written through a `zip`.
     fn by_words<F: Fn(u64, u64) -> u64 + Drop>(self, other: Self, op: F) -> Self
         requires { F.IsAlwaysCallable op }
         ensures { (k : ℕ) → k < WORDS → F.post op (slice_index self.entry.words k) (slice_index other.entry.words k) (slice_index result.words k) }
     {
-        let mut words = self.words;
-        for k in 0..WORDS {
-            words[k] = op(words[k], other.words[k]);
+        Set {
+            words: array::from_fn(
+                |k| -> u64
+                    requires { (k < WORDS) × F.IsAlwaysCallable op }
+                    ensures { F.post op (slice_index self.words k) (slice_index other.words k) result }
+                { op(self.words[k], other.words[k]) },
+            ),
         }
-        Set { words }
     }
 
     // Each member moves up by one, and the last number drops out.
@@ -87,5 +91,18 @@ where
             carry = top;
         }
         Set { words }
+    }
+}
+
+impl State {
+    // The state with the positions from `low` to `high` too.
+    pub fn with_range(self, low: u8, high: u8) -> State
+        ensures { (p : ℕ) → has result p ≡ (has self p || (nat_le low p && nat_le p high)) }
+    {
+        let mut out = self;
+        for at in low..=high {
+            out = out.with(at);
+        }
+        out
     }
 }

@@ -62,6 +62,7 @@ where
     pub fn count(self) -> u32
         ensures { result ≡ size self.entry }
     {
+        // a loop: a `sum` was tried, and leaves open both what it comes to and that it fits
         let mut count = 0;
         for word in self.words {
             count += word.count_ones();
@@ -73,6 +74,7 @@ where
     pub fn lowest(self) -> Option<u8>
         ensures { MatchOption result ((p : ℕ) → has self.entry p ≡ false) (λ m. Least (has self.entry) m) }
     {
+        // a `for` with an early end: a `find_map` would hold the same test and the same number, in an Option
         for (k, word) in self.words.iter().enumerate() {
             if *word != 0 {
                 return Some((64 * k) as u8 + word.trailing_zeros() as u8);

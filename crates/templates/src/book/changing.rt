@@ -1,8 +1,9 @@
 // Adding templates to the book and deleting them.
-ghost use Rattle.std.specs.Prelude.{◌≡◌, ℕ, true, false, ◌↔◌, List, IfOk, MatchResult, OnOk};
+ghost use Rattle.std.specs.Prelude.{◌≡◌, ℕ, true, false, ◌↔◌, List, IfOk, OnOk};
 ghost use Rattle.std.specs.Result.{result_err};
 ghost use Rattle.states.specs.Sets.{has_rule};
-ghost use Rattle.books.specs.Changes.{Added, Deleted, Changed, delete_refusal};
+ghost use Rattle.books.specs.Changes.{Added, Deleted, ChangesUnless, delete_refusal};
+ghost use Rattle.books.specs.Kinds.{IsRule};
 ghost use Rattle.books.specs.Texts.{meets};
 ghost use Rattle.templates.specs.Templates.{Fits, OthersStay, Template, TemplateAdded, TemplateDeleted, template_refusal};
 ghost use Rattle.templates.specs.contracts.book.reading.TemplateBookBook.TheImpl.{ghosts as reading};
@@ -17,7 +18,7 @@ impl TemplateBook {
     // The rule to add, if every question about it gets a yes.
     fn ask(&self, rule: u32, kind: u32, bytes: &[u8]) -> Result<Rule<RULES>, BookFault>
         ensures answer { result_err result ≡ template_refusal (reading.model self.now).meaning rule kind bytes.now }
-        ensures rule { IfOk result (λ it. (it.number ≡ rule) × (it.kind ≡ kind)) }
+        ensures rule { IfOk result (IsRule rule kind) }
     {
         let new = self.kinds.new_rule(rule, kind)?;
         if bytes.is_empty() || bytes.len() > LONGEST {
@@ -39,9 +40,7 @@ impl ChangingBook for TemplateBook {
     // Costs at most 256 steps for each byte.
     fn add(&mut self, rule: u32, kind: u32, bytes: &[u8]) -> Result<(), BookFault>
         ensures answer { result_err result ≡ template_refusal (reading.model self.old).meaning rule kind bytes.now }
-        ensures change { MatchResult result
-            (λ _. Changed (Added rule kind) (reading.model self.old) (reading.model self.new))
-            (λ _. self.new ≡ self.old) }
+        ensures change { ChangesUnless result (Added rule kind) reading.model self.old self.new }
         ensures template { OnOk result (Template rule bytes.now (reading.model self.new).meaning) }
         ensures texts { OnOk result ((text : List ℕ) →
             has_rule (meets (reading.model self.new).meaning text) rule ≡ true ↔ Fits bytes.now text) }
@@ -57,9 +56,7 @@ impl ChangingBook for TemplateBook {
     // Takes `rule` out of force: no text meets it then, and other rules read as before. Refused where it is not in force.
     fn delete(&mut self, rule: u32) -> Result<(), BookFault>
         ensures answer { result_err result ≡ delete_refusal (reading.model self.old).meaning rule }
-        ensures change { MatchResult result
-            (λ _. Changed (Deleted rule) (reading.model self.old) (reading.model self.new))
-            (λ _. self.new ≡ self.old) }
+        ensures change { ChangesUnless result (Deleted rule) reading.model self.old self.new }
         ensures texts { OnOk result ((text : List ℕ) → has_rule (meets (reading.model self.new).meaning text) rule ≡ false) }
         ensures others { OnOk result (OthersStay rule (reading.model self.old).meaning (reading.model self.new).meaning) }
         ensures shrunk { OnOk result (TemplateDeleted rule

@@ -29,6 +29,7 @@ impl Book for TemplateBook {
     }
 
     fn ended(&self, state: State) -> Rules {
+        // a loop as in `states::follow`, which says why
         let mut out = Rules::empty();
         for p in state.meet(self.ends).members() {
             out = out.union(Rules::single(p / SPAN));

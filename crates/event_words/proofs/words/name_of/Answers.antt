@@ -4,6 +4,7 @@ use Rattle.std.specs.Result.{result_ok}
 use Rattle.lines.specs.Numerals.{Number}
 use Rattle.lines.specs.Parts.{Parts}
 use Rattle.lines.specs.declared.command.Expected.{Expected}
+use Rattle.lines.specs.declared.command.Expected.TheVariants as expected
 use Rattle.lines.proofs.Leading.{digits_lack}
 use Rattle.lines.proofs.Parting.{one_parting}
 use Rattle.event_words.specs.Words.{Named, Names}
@@ -18,9 +19,9 @@ named_parts word first rest n h k =
     (k.1, s.1, subst (λ d. Number d n.machine) (sym s.0) k.3, k.4)
 
 -- what gave no number writes none
-no_number : (d : List ℕ) (r : Result ℕ Expected) → MatchResult r (λ n. Number d n) (λ _. (n : ℕ) → Number d n → ⊥) → result_ok r ≡ None → (n : ℕ) → Number d n → ⊥
+no_number : (d : List ℕ) (r : Result ℕ Expected) → MatchResult r (λ n. Number d n) (λ x. (x ≡ expected.Number) × ((n : ℕ) → Number d n → ⊥)) → result_ok r ≡ None → (n : ℕ) → Number d n → ⊥
 no_number d (Ok x) h e = cc
-no_number d (Err x) h e = h
+no_number d (Err x) h e = h.1
 
 one : (o : Option (List ℕ)) (d e : List ℕ) → o ≡ Some d → o ≡ Some e → d ≡ e
 one o d e h k = cc

@@ -1,13 +1,12 @@
-use Rattle.std.proofs.Common.{◌≡◌, ℕ, zero, suc, sym, refl, ap, ◌∙◌, subst, arith}
-use Rattle.std.proofs.lemmas.Bool.{both_ways}
+use Rattle.std.proofs.Common.{◌≡◌, ℕ, zero, suc, Bool, true, ◌&&◌, ◌||◌, refl, ap, ap₂, ◌∙◌, arith, rules}
 use Rattle.states.specs.Words.{some, digits_of}
-use Rattle.states.specs.Sets.{State}
-use Rattle.states.specs.Sets.{has, with_members, words_of}
+use Rattle.states.specs.Sets.{State, has, with_members, words_of}
 use Rattle.states.proofs.Members.{is_set_of}
+use Rattle.expressions.specs.CodeRange.{contains}
 use Rattle.numbers.specs.Number.{leads, number_next}
-use Rattle.numbers.proofs.Rows.{Right, row_right, one_code, no_code, row_goes, row_stays}
+use Rattle.numbers.proofs.Rows.{Right, row_right, one_code, no_code, row_more}
 use Rattle.numbers.proofs.table.step.Goals as goal
-use Rattle.numbers.proofs.table.step.Goals.{then-holds+then-row-code+then-code-row, else-holds, else-holds-via-then-holds+then-row-code+else-code-row, else-holds-via-then-holds+else-row-code, else-holds-via-else-holds}
+use Rattle.numbers.proofs.table.step.Goals.{then-holds+then-contains, else-holds, else-holds-via-then-holds+else-contains, else-holds-via-else-holds}
 
 -- every row of the table is right
 table_right : (c : goal.Joined-holds) (p : ℕ) → c.loop-p.p ≡ p → Right p c.row-item.result
@@ -26,20 +25,17 @@ loop-p-init c q l = c.empty-out.ensures q
 
 pub loop-p-preserved : goal.loop-p-preserved
 loop-p-preserved c =
-    let right = subst (Right c.loop-p.p) c.row-item.is (table_right c c.loop-p.p refl) in
-    elim c.if-holds.branch [
-      | then-holds+then-row-code+then-code-row w ↦ λ q l.
-          ap (λ (t : State). has t q) w.out-is
-          ∙ row_goes c.args.state c.loop-p.out c.args.code c.loop-p.p _ right c.loop-p.invariant w.union-out.result
-          (sym w.if-holds.ensures) w.if-row-code.true w.if-code-row.true w.union-out.ensures q l
-      | else-holds w ↦ λ q l.
-          ap (λ (t : State). has t q) w.out-is
-          ∙ row_stays c.args.state c.loop-p.out c.args.code c.loop-p.p _ right c.loop-p.invariant (elim w.else-holds.branch [
-            | else-holds-via-then-holds+then-row-code+else-code-row v ↦ λ h a b. omega (arith, v.if-code-row.false)
-            | else-holds-via-then-holds+else-row-code v ↦ λ h a b. omega (arith, v.if-row-code.false)
-            | else-holds-via-else-holds v ↦ λ h a b. both_ways _ (sym v.if-holds.ensures) h
-          ]) q l
-    ]
+    row_more c.args.state c.loop-p.out c.if-holds.out c.args.code c.loop-p.p c.row-item.result (table_right c c.loop-p.p refl) c.loop-p.invariant (elim c.if-holds.branch [
+      | then-holds+then-contains w ↦ λ q.
+          (let united : has w.union-out.result q ≡ (has c.loop-p.out q || has c.row-item.result.follow q) = search (rules, w.union-out.ensures q) in
+          let inside : true ≡ contains c.row-item.result.codes c.args.code = search (rules, w.if-contains.ensures) in
+          ap (λ (t : State). has t q) w.out-is ∙ united
+          ∙ ap₂ (λ (x y : Bool). has c.loop-p.out q || (x && y && has c.row-item.result.follow q)) w.if-holds.ensures inside)
+      | else-holds w ↦ (elim w.else-holds.branch [
+        | else-holds-via-then-holds+else-contains v ↦ λ q. grind arith
+        | else-holds-via-else-holds v ↦ λ q. grind arith
+      ])
+    ])
 
 pub returns : goal.returns
 unfolding number_next

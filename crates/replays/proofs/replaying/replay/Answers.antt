@@ -1,12 +1,9 @@
-use Rattle.std.proofs.Common.{◌≡◌, [], ◌∷◌, ◌++◌, sym, refl, ap, ◌∙◌, append_assoc, append-nil}
+use Rattle.std.proofs.Common.{◌≡◌, [], ◌∷◌, ◌++◌, sym, ap, ◌∙◌, append_assoc, append-nil}
 use Rattle.std.specs.Vec.Iter.{into_iter_items}
 use Rattle.std.proofs.lemmas.List.{nil_from_length}
 use Rattle.readings.proofs.Acting.{acts_history}
-use Rattle.replays.proofs.Underway.{replaying_none, replaying_more, replaying_done_by, replayed_by}
+use Rattle.replays.proofs.Underway.{replaying_more, replaying_done_by, replayed_by}
 use Rattle.replays.proofs.replaying.replay.Goals as goal
-
-pub loop-ask-init : goal.loop-ask-init
-loop-ask-init g c = (replaying_none _ _ _ _ c.new-log.ensures.items, refl)
 
 pub loop-ask-preserved : goal.loop-ask-preserved
 loop-ask-preserved g c = (

@@ -1,32 +1,30 @@
-use Rattle.std.proofs.Common.{◌≡◌, IsUtf8, sym, ◌∙◌, subst}
-use Rattle.std.proofs.lemmas.Result.{MatchResult-from_err}
-use Rattle.scripts.proofs.Spelling.{first_word, refused}
-use Rattle.scripts.proofs.Words.{new, read, readx, kind, tally, edition, note, spelling, word_utf8}
+use Rattle.std.proofs.Common.{◌≡◌, sym, refl, ap, ◌∙◌, subst}
+use Rattle.lines.specs.Lines.{BySpelling, behind, spelling}
+use Rattle.lines.specs.declared.word.Word.TheVariants as word
+use Rattle.lines.proofs.Refusing.{err_by}
+use Rattle.scripts.proofs.Spelling.{Makes, first_word, newly, refused}
 use Rattle.scripts.proofs.parsing.parse.Goals as goal
 
+pub returns-in_err-try_from : goal.returns-in_err-try_from
+returns-in_err-try_from c =
+    err_by _ _ c.in_err-try_from.field-0.0 c.from_residual.result c.from_residual.ensures.1
+    (subst BySpelling (sym c.in_err-try_from.ensures.0) tt, λ k h. let f = first_word _ _ _ c.part.ensures k h in c.in_err-try_from.ensures.1 f.0 f.1)
+
+pub returns-in-New : goal.returns-in-New
+returns-in-New c = newly _ _ _ c.part.ensures (c.in_ok-try_from.ensures ∙ ap spelling c.in-New.is) c.new_reader.result c.new_reader.ensures
+
 pub returns-in_default : goal.returns-in_default
-returns-in_default c =
-    λ k h.
-    let f = first_word _ _ _ c.part.ensures k h in
-    c.in_default.ensures.cases.0 (subst IsUtf8 (sym f.1) (word_utf8 f.0))
-
-pub returns-in_err-book-in-new : goal.returns-in_err-book-in-new
-returns-in_err-book-in-new c =
-    MatchResult-from_err c.from_residual.result _ _ c.from_residual.ensures.0
-    (λ _. refused _ _ _ c.part.ensures new (sym c.in-Ok.ensures.cases.0 ∙ c.in-new.is)
-    (λ k g. c.in_err-book-in-new.ensures g.1 g.0 g.3 g.4))
-
-pub returns-in_default-word : goal.returns-in_default-word
-returns-in_default-word c =
-    λ k h.
-    let f = first_word _ _ _ c.part.ensures k h in
-    let e = c.in-Ok.ensures.cases.0 ∙ f.1 in
-    elim f.0 as (λ w. c.in-Ok.word.now ≡ spelling w → ⊥) [
-      | new ↦ c.in_default-word.not-new
-      | read ↦ c.in_default-word.not-read
-      | readx ↦ c.in_default-word.not-readx
-      | kind ↦ c.in_default-word.not-kind
-      | tally ↦ c.in_default-word.not-tally
-      | edition ↦ c.in_default-word.not-edition
-      | note ↦ c.in_default-word.not-note
-    ] e
+returns-in_default c = (
+  tt,
+  refused _ _ _ c.part.ensures c.in_ok-try_from.field-0 c.in_ok-try_from.ensures
+      (λ k. elim c.in_ok-try_from.field-0 as (λ w. c.in_ok-try_from.field-0 ≡ w → Makes w (behind (record { 0 = c.part.result.rest })) k → ⊥) [
+        | word.New ↦ λ e m. c.in_default.not-New e
+        | word.Read ↦ λ e m. c.in_default.not-Read e
+        | word.ReadHex ↦ λ e m. c.in_default.not-ReadHex e
+        | word.Kind ↦ λ e m. c.in_default.not-Kind e
+        | word.Tally ↦ λ e m. c.in_default.not-Tally e
+        | word.Edition ↦ λ e m. c.in_default.not-Edition e
+        | word.Note ↦ λ e m. c.in_default.not-Note e
+        | _ ↦ λ e m. m
+      ] refl),
+)

@@ -11,7 +11,6 @@ use Rattle.passes.specs.Runs.{Answers, Misses}
 use Rattle.contexts.specs.Uses.{Takes, Use, Wants, wanting_for}
 use Rattle.passes.specs.declared.fault.Fault.{Fault}
 use Rattle.passes.specs.declared.fault.Fault.TheVariants.{Malformed, NoMemory}
-use Rattle.expression_book.specs.Tables.{book_model}
 use Rattle.sessions.specs.Sessions.{LacksEvents, TakesEvents}
 use Rattle.sessions.specs.Sessions.TakesEvents.{named, refused}
 use Rattle.sessions.specs.Sessions.LacksEvents.{no_words, wanted}

@@ -1,5 +1,5 @@
 use Rattle.templates.specs.Tables.{Marked}
 use Rattle.templates.proofs.table.mark.Given as goal
 
-abbrev pub invariant-loop-code : goal.invariant-loop-code
-invariant-loop-code l = Marked l.initial.takes l.takes l.at l.initial.code l.code
+abbrev pub invariant-loop-entry : goal.invariant-loop-entry
+invariant-loop-entry l = Marked l.initial.entry-items l.entry-items l.position 0 l.entry-index

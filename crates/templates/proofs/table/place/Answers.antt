@@ -1,9 +1,6 @@
 use Rattle.std.proofs.Common.{◌≡◌, length, refl, subst, arith}
-use Rattle.templates.specs.Tables.{Placed, place_none, place_more, place_all}
+use Rattle.templates.specs.Tables.{Placed, place_more, place_all}
 use Rattle.templates.proofs.table.place.Goals as goal
-
-pub loop-i-init : goal.loop-i-init
-loop-i-init c = (c.told-takes, place_none c.args.takes.now c.args.first c.args.template.now)
 
 pub loop-i-preserved : goal.loop-i-preserved
 loop-i-preserved c =
@@ -13,11 +10,8 @@ loop-i-preserved c =
           c.loop-i.invariant.1 c.loop-i-test.true refl c.codes_of-codes.ensures.codes c.mark.ensures,
     )
 
-pub returns : goal.returns
-returns c =
+pub returns-clause-members : goal.returns-clause-members
+returns-clause-members c =
     let all : c.loop-i.i ≡ length c.args.template.now = omega arith in
-    record {
-      size = c.loop-i.invariant.0;
-      members = place_all c.args.takes.now c.loop-i.takes c.args.first c.args.template.now
-          (subst (Placed c.args.takes.now c.loop-i.takes c.args.first c.args.template.now) all c.loop-i.invariant.1);
-    }
+    place_all c.args.takes.now c.loop-i.takes c.args.first c.args.template.now
+    (subst (Placed c.args.takes.now c.loop-i.takes c.args.first c.args.template.now) all c.loop-i.invariant.1)

@@ -1,16 +1,10 @@
-use Rattle.std.proofs.Common.{◌≡◌, ℕ, ◌+◌, ◌<◌, true, false, List, [], ◌∷◌, ◌++◌, map, length, get_or, take, drop, is_some, Some, None, string_bytes, Option, sym, ap, ◌∙◌, subst, append_assoc, append-nil, arith, take-append-drop}
+use Rattle.std.proofs.Common.{◌≡◌, ℕ, ◌+◌, ◌<◌, true, false, List, [], ◌∷◌, ◌++◌, map, length, get_or, take, drop, is_some, string_bytes, sym, ap, ◌∙◌, subst, append_assoc, append-nil, arith, rules, take-append-drop}
 use lib.ListN.{length-map}
 use Rattle.std.proofs.lemmas.List.{drop_more, get_or-map, take_all, take_more}
-use Rattle.std.proofs.lemmas.Bool.{cond-true}
-use Rattle.passes.specs.Runs.{Answers, Misses}
-use Rattle.contexts.specs.Uses.{FeedsEach, FeedsUntil, FeedsNext, RefusesOne, Use, Wants, wanting_walk}
+use Rattle.passes.specs.Runs.{Answers}
+use Rattle.contexts.specs.Uses.{FeedsEach, FeedsUntil, FeedsNext, RefusesOne, Use}
 use Rattle.contexts.specs.Uses.FeedsUntil.{all, until}
 use Rattle.contexts.specs.Uses.FeedsEach.{none, more}
-use Rattle.lines.specs.declared.command.Expected.{Expected}
-use Rattle.lines.specs.declared.command.Expected.TheVariants as expected
-use Rattle.passes.specs.declared.fault.Fault.{Fault}
-use Rattle.passes.specs.declared.fault.Fault.TheVariants.{Malformed, NoMemory}
-use Rattle.contexts.proofs.Refusing.{err_by}
 use Rattle.contexts.specs.Contexts.{use_of}
 use Rattle.contexts.proofs.context.Context.feed.Goals as goal
 
@@ -38,24 +32,8 @@ module _ (u m w : Use) (before mid after : List ℕ) (xs : List ℕ) (i c : ℕ)
 with_walk : (P : List ℕ → Type 0) (W : Type 0) (before after : List ℕ) → W → Answers P before after → Answers (λ a. W × P a) before after
 with_walk P W before after w (a, e, p) = (a, e, (w, p))
 
--- while there is a walk, a symbol is not fed only for want of memory
-broken : {S : Type 0} (u m : Use) (f : Fault) (s t s' t' : S) (b a b' a' : List ℕ) → is_some m.walk ≡ true → Misses (Wants wanting_walk m) f s t b a → Misses (Wants wanting_walk u) f s' t' b' a'
-broken u m (Malformed x) s t s' t' b a b' a' e h =
-    let wanted : Option Expected = Some expected.Walk in
-    let gone = cond-true (is_some m.walk) None wanted e in
-    absurd (let z : ◌≡◌ {A = ℕ} 0 1 = cc (sym gone ∙ h.0) in omega arith)
-broken u m NoMemory s t s' t' b a b' a' e h = tt
-
 pub loop-symbol-init : goal.loop-symbol-init
-loop-symbol-init g c = ((([], sym (append-nil (string_bytes c.args.out.now)), none)), c.if-is_none.ensures)
-
-pub returns-in_err-feed_next : goal.returns-in_err-feed_next
-returns-in_err-feed_next g c =
-    let model = g.B.Book.model in
-    let code = g.B.Symbol.Symbol.code in
-    err_by _ _ c.in_err-feed_next.field-0.0 c.from_residual.result c.from_residual.ensures.1
-    (broken (use_of c.args.self.now) (use_of c.loop-symbol.self) c.in_err-feed_next.field-0.0 c.loop-symbol.self c.feed_next.new.self c.args.self.now c.feed_next.new.self
-    (string_bytes c.loop-symbol.out) (string_bytes c.feed_next.new.out) (string_bytes c.args.out.now) (string_bytes c.feed_next.new.out) c.loop-symbol.invariant.1 c.in_err-feed_next.ensures)
+loop-symbol-init g c = ((([], sym (append-nil (string_bytes c.args.out.now)), none)), search rules)
 
 pub loop-symbol-preserved : goal.loop-symbol-preserved
 loop-symbol-preserved g c =
@@ -84,7 +62,8 @@ returns-then-not-branch g c =
     let x = c.symbol-item.result in
     let l : i < length xs = omega arith in
     let h = subst (λ on. Answers (FeedsNext (code x) on m w) (string_bytes c.loop-symbol.out) (string_bytes c.feed_next.new.out)) c.if-not-branch.true c.in_ok-feed_next.ensures in
-    with_walk _ _ _ _ c.if-is_none.ensures (fed_until (use_of c.args.self.now) m w (string_bytes c.args.out.now) (string_bytes c.loop-symbol.out) (string_bytes c.feed_next.new.out) (map code xs) i (code x)
+    let there : is_some c.args.self.now.walk ≡ true = search rules in
+    with_walk _ _ _ _ there (fed_until (use_of c.args.self.now) m w (string_bytes c.args.out.now) (string_bytes c.loop-symbol.out) (string_bytes c.feed_next.new.out) (map code xs) i (code x)
     (subst (λ n. i < n) (sym (length-map xs code)) l) (code_at code xs i x l c.symbol-item.is) c.loop-symbol.invariant.0 h)
 
 pub returns : goal.returns
@@ -93,4 +72,5 @@ returns g c =
     let code = g.B.Symbol.Symbol.code in
     let xs = map code c.args.text.now in
     let h = c.loop-symbol.invariant.0 in
-    (h.0, h.1, (c.if-is_none.ensures, all (subst (λ t. FeedsEach (use_of c.args.self.now) t (use_of c.loop-symbol.self) h.0) (take_all c.loop-symbol.symbol-index xs (rw length-map (omega arith))) h.2)))
+    let there : is_some c.args.self.now.walk ≡ true = search rules in
+    (h.0, h.1, (there, all (subst (λ t. FeedsEach (use_of c.args.self.now) t (use_of c.loop-symbol.self) h.0) (take_all c.loop-symbol.symbol-index xs (rw length-map (omega arith))) h.2)))

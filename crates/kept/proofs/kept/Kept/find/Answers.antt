@@ -1,34 +1,39 @@
-use Rattle.std.proofs.Common.{◌≡◌, ◌<◌, ◌≤◌, true, false, length, Some, sym, ap, ◌∙◌, arith}
-use Rattle.std.proofs.lemmas.List.{at_drop_all}
-use Rattle.kept.specs.Steps.{from, found}
+use Rattle.std.proofs.Common.{◌≡◌, ◌≤◌, false, length, get_or, vec_items, Some, arith, sym, ap, ◌∙◌}
+use Rattle.std.proofs.lemmas.List.{at_drop_all, get_or_read}
+use Rattle.std.proofs.lemmas.Bool.{and_left, and_right, and_from, cond-true, cond-false, eq-eqb, ne_eqb}
+use Rattle.states.specs.Sets.{same}
+use Rattle.kept.specs.declared.kept.Move.{Move}
+use Rattle.kept.specs.Steps.{step, from, found}
 use Rattle.kept.specs.Tables.{steps}
-use Rattle.kept.proofs.Found.{from_both, from_other_state, from_other_code, found_drop_here, found_drop_past}
-use Rattle.kept.proofs.Tables.{count_is, at, reads_code, reads_state, reads_next}
+use Rattle.kept.proofs.Zipped.{no_move, found_at}
+use Rattle.kept.proofs.Tables.{lengths, count_is}
 use Rattle.kept.proofs.kept.Kept.find.Goals as goal
-use Rattle.kept.proofs.kept.Kept.find.Goals.{else-index-code-via-then-index-code+else-eq, else-index-code-via-else-index-code}
+use Rattle.kept.proofs.kept.Kept.find.Goals.{else-kept-code-via-then-kept-code+else-eq, else-kept-code-via-else-kept-code}
 
 pub loop-i-preserved : goal.loop-i-preserved
+unfolding steps
 loop-i-preserved c =
     let t = c.args.self.now in
     let i = c.loop-i.i in
-    let within : i < length (steps t) = omega (arith, count_is t) in
-    let past : from (at t i) c.args.state c.args.code ≡ false = elim c.else-index-code.branch [
-      | else-index-code-via-then-index-code+else-eq w ↦ from_other_state (at t i) c.args.state _ c.args.code
-          (reads_state t i _ within w.index-then-index-code.ensures) w.if-eq.ensures.value
-      | else-index-code-via-else-index-code w ↦ from_other_code (at t i) c.args.state c.args.code _
-          (reads_code t i _ within c.index.ensures) w.if-index-code.false
+    let m = get_or (vec_items t.moves) i no_move in
+    let code = ap (λ cs. get_or cs i 0) c.deref-kept-items.ensures.value in
+    let apart : from (step m.state (get_or (vec_items t.codes) i 0) m.next) c.args.state c.args.code ≡ false = elim c.else-kept-code.branch [
+      | else-kept-code-via-then-kept-code+else-eq w ↦ and_left _ _
+          (ap (λ (m : Move). same m.state c.args.state) (sym (get_or_read _ i _ (omega arith) w.index.ensures no_move)) ∙ sym w.if-eq.ensures.value)
+      | else-kept-code-via-else-kept-code w ↦ and_right _ _ (ne_eqb _ _ (λ e. w.if-kept-code.false (code ∙ e)))
     ] in
-    sym (found_drop_past (steps t) i _ _ _ within past) ∙ c.loop-i.invariant
+    sym (found_at _ _ (lengths t) c.args.state c.args.code i (omega arith) ∙ cond-false _ _ _ apart) ∙ c.loop-i.invariant
 
 pub returns-then-eq : goal.returns-then-eq
+unfolding steps
 returns-then-eq c =
     let t = c.args.self.now in
     let i = c.loop-i.i in
-    let within : i < length (steps t) = omega (arith, count_is t) in
-    let here : from (at t i) c.args.state c.args.code ≡ true = from_both (at t i) c.args.state _ c.args.code _
-    (reads_state t i _ within c.index-then-index-code.ensures) c.if-eq.ensures.value
-    (reads_code t i _ within c.index.ensures) c.if-index-code.true in
-    ap Some (sym (reads_next t i _ within c.index-then-eq.ensures)) ∙ sym (found_drop_here (steps t) i _ _ _ within here) ∙ c.loop-i.invariant
+    let code = ap (λ cs. get_or cs i 0) c.deref-kept-items.ensures.value in
+    let state = ap (λ (m : Move). same m.state c.args.state) (sym (get_or_read _ i _ (omega arith) c.index.ensures no_move)) ∙ sym c.if-eq.ensures.value in
+    let next = ap (λ (m : Move). m.next) (get_or_read _ i _ (omega arith) c.index-then-eq.ensures no_move) in
+    sym (found_at _ _ (lengths t) c.args.state c.args.code i (omega arith)
+    ∙ cond-true _ _ _ (and_from _ _ state (eq-eqb _ _ (sym code ∙ c.if-kept-code.true))) ∙ ap Some (sym next)) ∙ c.loop-i.invariant
 
 pub returns : goal.returns
 unfolding found

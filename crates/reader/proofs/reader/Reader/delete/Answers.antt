@@ -1,44 +1,18 @@
-use Rattle.std.proofs.Common.{sym, refl, ap, ◌∙◌, subst, inl, inr}
-use Rattle.std.specs.Option.{option_map}
-use Rattle.std.proofs.lemmas.Result.{err_from_is_err_and}
-use Rattle.books.specs.declared.refusal.Refusal.TheVariants.{Book}
+use Rattle.std.proofs.Common.{sym, refl, ap, ◌∙◌, subst, inr}
 use Rattle.readings.specs.Views.{AllRight}
+use Rattle.std.proofs.lemmas.Result.{err_from_is_err_and}
 use Rattle.readings.specs.Readings.Told.{changed}
 use Rattle.readings.specs.Calls.Call.{delete as deleting}
 use Rattle.readings.proofs.Acting.{acts_does}
 use Rattle.readings.proofs.Changed.{right_deleted}
 use Rattle.readings.proofs.Dropped.{drops}
-use Rattle.reader.specs.View.{view}
-use Rattle.reader.proofs.Changes.{same_reader, asks_book, last_edition, absent_is}
+use Rattle.reader.proofs.Changes.{same_reader}
 use Rattle.reader.proofs.reader.Reader.delete.Goals as goal
 
-pub returns-in_err-edition : goal.returns-in_err-edition
-returns-in_err-edition g c =
-    let p = err_from_is_err_and c.from_residual.result c.from_residual.ensures.1 in
-    let h = c.in_err-edition.ensures in
-    rw (p.1, p.2, h.1) (record {
-      answer = sym (last_edition _ _ h.0);
-      does = inl (h.0, record { tells = refl; count = refl; same = refl });
-      acts = inl (h.0, record { tells = refl; count = refl; same = refl });
-      same = refl;
-    })
-
-pub returns-in_err-delete : goal.returns-in_err-delete
-returns-in_err-delete g c =
+pub returns-in_err-delete-clause-same : goal.returns-in_err-delete-clause-same
+returns-in_err-delete-clause-same g c =
     let p = err_from_is_err_and c.from_residual-in_err-delete.result c.from_residual-in_err-delete.ensures.1 in
-    let room = c.in_ok-edition.ensures.0 in
-    let h = c.in_err-delete.ensures in
-    let same = same_reader c.args.self.now c.delete.new.self _ _ _ h.change in
-    let absent = absent_is (g.B.Book.model c.args.self.now.book).meaning c.args.rule _ h.answer in
-    rw (p.1, p.2) (record {
-      answer = ap (option_map Book) h.answer ∙ sym (asks_book _ _ room);
-      does = inr (inl (room, (c.in_err-delete.field-0.0, absent, record { tells = refl; count = refl; same = ap view same })));
-      acts = inr (inl (room, (c.in_err-delete.field-0.0, absent, record { tells = refl; count = refl; same = ap view same })));
-      same = same;
-    })
-
-pub returns-clause-answer : goal.returns-clause-answer
-returns-clause-answer g c = ap (option_map Book) c.in_ok-delete.ensures.answer ∙ sym (asks_book _ _ c.in_ok-edition.ensures.0)
+    rw p.1 (same_reader c.args.self.now c.delete.new.self _ _ _ c.in_err-delete.ensures.change)
 
 pub returns-clause-acts : goal.returns-clause-acts
 returns-clause-acts g c =

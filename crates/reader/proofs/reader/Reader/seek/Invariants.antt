@@ -11,6 +11,6 @@ abbrev pub invariant-loop-i : goal.invariant-loop-i
 invariant-loop-i g l =
     let v = view in
     let code = g.B.Symbol.Symbol.code in
-    Sought (v l.initial.self) (map code l.rest) (v l.self) l.state (map code (drop l.i l.rest)) l.seen.count (option_map ended l.seen.best)
-    × (l.seen.count ≤ l.i)
+    Sought (v l.initial.self) (map code l.rest) (v l.self) l.state (map code (drop l.i l.rest)) l.count (option_map ended l.best)
+    × (l.count ≤ l.i)
     × Within (v l.self).book.meaning l.state

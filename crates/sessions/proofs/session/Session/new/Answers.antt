@@ -1,5 +1,4 @@
 use Rattle.std.proofs.Common.{◌≡◌, ℕ, sym, ap, ◌∙◌, subst}
-use Rattle.symbols.specs.contracts.event.EventSymbol.TheImpl.{ghosts as event_symbol}
 use Rattle.books.specs.Meaning.{Model}
 use Rattle.numbers.specs.contracts.book.reading.NumberBookBook.TheImpl.{ghosts as number_reading}
 use Rattle.templates.specs.contracts.book.reading.TemplateBookBook.TheImpl.{ghosts as template_reading}

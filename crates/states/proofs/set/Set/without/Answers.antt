@@ -1,9 +1,8 @@
-use Rattle.std.proofs.Common.{rules, ◌&&◌, not, refl}
+use Rattle.std.proofs.Common.{rules, ◌&&◌, not, refl, w64}
 use lib.Bits.{bit_and}
 use Rattle.states.proofs.Digits.{bit_without}
 use Rattle.states.proofs.Members.{has_op}
 use Rattle.std.specs.Int.{bit_not}
-use Rattle.std.proofs.Common.{w64}
 use Rattle.states.proofs.set.Set.without.Goals as goal
 
 pub returns : goal.returns

@@ -14,5 +14,5 @@ invariant_of-result c =
       taking = λ q p h. absurd (both_ways _ (takes_none _ none 256 q p) h);
     }
 
-pub returns : goal.returns
-returns c = record { rules = c.new.ensures; texts = λ text q. ends_none c.empty-none.result c.empty-none.ensures _ q; note = refl }
+pub returns-clause-texts : goal.returns-clause-texts
+returns-clause-texts c text q = ends_none c.empty-none.result c.empty-none.ensures _ q

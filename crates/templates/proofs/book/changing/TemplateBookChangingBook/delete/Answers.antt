@@ -1,6 +1,5 @@
-use Rattle.std.proofs.Common.{◌≡◌, Bool, true, cond, is_some, Some, None, sym, refl, ap, ◌∙◌, arith}
-use Rattle.books.specs.declared.faults.BookFault.TheVariants.{Absent}
-use Rattle.templates.specs.Laws.{in_force, rule_below}
+use Rattle.std.proofs.Common.{◌≡◌, true, is_some, refl, ap, rules}
+use Rattle.templates.specs.Laws.{in_force}
 use Rattle.templates.proofs.Alike.{others}
 use Rattle.templates.proofs.Changes.{deleted, delete_texts, delete_alike}
 use Rattle.templates.proofs.book.changing.TemplateBookChangingBook.delete.Goals as goal
@@ -18,7 +17,7 @@ returns c =
     let met = delete_texts a b r there kinds takes ends in
     let stay = others r a b (delete_alike a b r there kinds takes ends) in
     record {
-      answer = ap (λ (x : Bool). cond x None (Some Absent)) (sym there);
+      answer = search rules;
       change = record { meaning = deleted a b r there kinds takes ends; note = c.remove.ensures.note; noted = refl };
       texts = met;
       others = stay;
