@@ -30,7 +30,7 @@ pub enum PatternFault {
 }
 
 impl PatternFault {
-    // The refusal in numbers.
+    // The refusal in numbers, case by case as the definition has it.
     pub fn tell(self) -> Told
         ensures { result ≡ told self }
     {
