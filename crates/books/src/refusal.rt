@@ -95,7 +95,7 @@ impl Cause {
 }
 
 impl BookFault {
-    // The fault in numbers, case by case as the definition has it.
+    // The fault in numbers. One arm a case, since some have a place of their own: a table of numbers would need the same arms.
     pub fn tell(self) -> Told
         ensures { result ≡ book_told self }
     {
@@ -112,7 +112,7 @@ impl BookFault {
 }
 
 impl Refusal {
-    // The refusal in numbers, case by case as the definition has it.
+    // The refusal in numbers. One arm a case, since some have a place or a count of their own: a table would need the same arms.
     pub fn tell(self) -> Told
         ensures { result ≡ told self }
     {

@@ -30,7 +30,7 @@ pub enum PatternFault {
 }
 
 impl PatternFault {
-    // The refusal in numbers, case by case as the definition has it.
+    // The refusal in numbers. One arm a case, since some have a place of their own: a table of numbers would need the same arms.
     pub fn tell(self) -> Told
         ensures { result ≡ told self }
     {

@@ -7,7 +7,8 @@ use books::Book;
 use kept::Kept;
 use std::alloc::AllocError;
 
-// A reader: its book, the steps that it keeps, its edition, and how many steps it has worked out so far.
+// A reader: its book, the steps that it keeps, its edition, and how many steps it has worked out so far. It has no model: its value
+// would be all four fields again, since a refused call leaves every one as it was.
 #[derive(Drop)]
 pub struct Reader<B: Book> {
     pub(crate) book: B,
