@@ -1,5 +1,5 @@
 -- A search for a token, half done: which beginning of the part read so far is the longest that ends a rule.
-use Rattle.std.proofs.Common.{◌≡◌, ℕ, ◌+◌, ◌-◌, ◌^◌, ◌<◌, ◌≤◌, true, false, List, [], ◌∷◌, ◌++◌, length, take, drop, Some, None, Option, IfSome, sym, refl, ap, ◌∙◌, subst, subst₂, ap₂, inl, inr, append_assoc, append-nil, arith, length-append, take_at}
+use Rattle.std.proofs.Common.{◌≡◌, ℕ, ◌+◌, ◌-◌, ◌^◌, ◌<◌, ◌≤◌, true, false, List, [], ◌∷◌, ◌++◌, length, take, drop, Some, None, Option, IfSome, sym, refl, ap, ◌∙◌, subst, ap₂, inl, inr, append_assoc, append-nil, arith, length-append, take_at}
 use lib.Seq.{take-append-add}
 use Rattle.std.proofs.lemmas.Bool.{cases_lt}
 use Rattle.states.specs.Sets.{State}
@@ -110,11 +110,6 @@ module _ {v₀ v w : View} {s t : State} {text rest : List ℕ} {c n k : ℕ} {b
         ends = (omega arith, some, sym (ended_here i j));
         longer = λ l' a h. absurd (omega arith);
       }
-
--- the same by another count
-pub sought_as : {v₀ v : View} {s : State} {text rest : List ℕ} {n n' : ℕ} {best best' : Option Ended} → Sought v₀ text v s rest n best
-    → n' ≡ n → best' ≡ best → Sought v₀ text v s rest n' best'
-sought_as {v₀} {v} {s} {text} {rest} o p q = subst₂ (Sought v₀ text v s rest) (sym p) (sym q) o
 
 -- ---- the search is over
 

@@ -15,11 +15,6 @@ module _ (v : View) (s : State) (c : ℕ) (some : is_empty s ≡ false) where
   kept_goes t e =
       sym (ap (λ (o : Option State). unwrap_or o (v.book.meaning.next s c)) e) ∙ sym (cond-false (is_empty s) s _ some)
 
-  -- and so does the book's next state where none is kept
-  pub asked_goes : found v.kept s c ≡ None → v.book.meaning.next s c ≡ goes v s c
-  asked_goes e =
-      sym (ap (λ (o : Option State). unwrap_or o (v.book.meaning.next s c)) e) ∙ sym (cond-false (is_empty s) s _ some)
-
 -- a kept step works nothing out
 pub kept_works : (v : View) (s : State) (c : ℕ) (t : State) → v.tally < 2 ^ 32 → found v.kept s c ≡ Some t → Works ((s, c) ∷ []) 0 v v
 kept_works v s c t l e =
