@@ -1,2 +1,0 @@
-mod Books
-mod Spelling

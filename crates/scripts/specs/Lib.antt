@@ -1,4 +1,0 @@
--- Which lines spell which command, and what each does.
-pub mod Lines
-pub mod Sessions
-pub mod Views
