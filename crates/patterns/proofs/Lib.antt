@@ -4,3 +4,17 @@ mod Ends
 mod Running
 mod Written
 mod Readings
+mod Turns
+mod Parts
+mod Wholes
+mod GrammarTrees
+mod GrammarClasses
+mod GrammarMarks
+mod GrammarParsed
+mod GrammarPassed
+mod GrammarRead
+mod GrammarMeaning
+mod GrammarSpelled
+mod GrammarMeant
+mod Unroomed
+mod RuleTexts

@@ -1,4 +1,4 @@
--- How the reading of a text goes on, mark by mark: what the functions of the grammar, which are still to come, stand on.
+-- How the reading of a text goes on, mark by mark.
 use Rattle.std.proofs.Common.{◌≡◌, ℕ, zero, suc, ◌-◌, ◌<◌, ◌≤◌, List, [], ◌∷◌, length, drop, Ok, Err, sym, refl, ap, ◌∙◌, arith, length-drop}
 use Rattle.patterns.specs.declared.faults.PatternFault.{PatternFault}
 use Rattle.patterns.specs.declared.marks.Mark.{Mark}

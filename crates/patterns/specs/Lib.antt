@@ -5,3 +5,7 @@ pub mod Marks
 pub mod Classes
 pub mod Reading
 pub mod Parsing
+pub mod Outcome
+pub mod Grammar
+pub mod Meaning
+pub mod Rules
