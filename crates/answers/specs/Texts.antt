@@ -1,6 +1,7 @@
 -- The text of answers.
-use Rattle.std.specs.Prelude.{◌≡◌, ℕ, ◌+◌, ◌/◌, ◌%◌, Bool, true, false, cond, not, ◌&&◌, List, [], ◌∷◌, ◌++◌, Some, None, OnOk, String, string_bytes, codes, decimal, Option, Result, ◌==◌, nat_le, nat_lt}
+use Rattle.std.specs.Prelude.{◌≡◌, ℕ, ◌+◌, ◌/◌, ◌%◌, Bool, true, false, cond, not, ◌&&◌, List, [], ◌∷◌, ◌++◌, length, Some, None, OnOk, String, string_bytes, codes, decimal, Option, Result, ◌==◌, nat_le, nat_lt}
 use Rattle.std.specs.declared.alloc.Global.{Global}
+use Rattle.hex.specs.Hex.{encode_lower}
 use Rattle.symbols.specs.Texts.{event_words}
 use Rattle.states.specs.Sets.{Rules, members}
 use Rattle.books.specs.Refusals.{told_text}
@@ -99,6 +100,10 @@ last_line shown place length text = span (codes "last") place length (codes " te
 abbrev pub feed_line : Bool → List ℕ
 feed_line true = codes "feed worked=yes" ++ (10 ∷ [])
 feed_line false = codes "feed worked=no" ++ (10 ∷ [])
+
+-- the commands of a pattern text, as pairs of hex digits
+abbrev pub pattern_line : List ℕ → List ℕ
+pattern_line commands = codes "pattern length=" ++ (decimal (length commands) ++ (codes " commands=" ++ (encode_lower commands ++ (10 ∷ []))))
 
 abbrev pub refused_line : Told → List ℕ
 refused_line told = codes "refused " ++ (told_text told ++ (10 ∷ []))

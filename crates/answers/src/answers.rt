@@ -1,15 +1,16 @@
 // One line for each answer, appended to what is there. Each fails only for want of memory. Those of a name and a number are calls
 // of their own, one line each, so that callers choose the answer by name and not by its text.
 ghost use Rattle.std.specs.Prelude.{map, length, codes};
-ghost use Rattle.answers.specs.Texts.{Writes, change_line, cursor_line, feed_line, finish_line, kind_line, last_line, malformed_line, new_line, numbered, parted, read_line, refused_line, token_line};
+ghost use Rattle.answers.specs.Texts.{Writes, change_line, cursor_line, feed_line, finish_line, kind_line, last_line, malformed_line, new_line, numbered, parted, pattern_line, read_line, refused_line, token_line};
 
 use crate::rules::{KindText, Met};
 use crate::shown::{Shown, Text};
 use books::{Book, Told};
+use hex::encode;
 use lines::{BookName, Expected};
 use reader::Token;
 use states::Rules;
-use std::alloc::AllocError;
+use std::alloc::{AllocError, Global};
 
 // A new reader over a new book.
 pub fn new_reader(out: &mut String, book: BookName, edition: u32) -> Result<(), AllocError>
@@ -97,6 +98,15 @@ pub fn finished<B: Book>(out: &mut String, book: &B, rules: Rules) -> Result<(),
 {
     let met = Met { book, rules };
     writeln!(out, "finish {met}")
+}
+
+// The commands of a pattern text, as pairs of hex digits.
+pub fn pattern(heap: Global, out: &mut String, commands: &[u8]) -> Result<(), AllocError>
+    ensures { Writes result out.old out.new (pattern_line commands.now) }
+{
+    let length = commands.len();
+    let digits = encode(heap, commands)?;
+    writeln!(out, "pattern length={length} commands={digits}")
 }
 
 // The kind of a rule, or none where the rule is not in force.

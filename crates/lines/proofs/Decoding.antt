@@ -3,13 +3,15 @@ use Rattle.std.proofs.Common.{ℕ, List, Option, sym, subst}
 use Rattle.lines.specs.Lines.{Decodable, Makes, Spells}
 use Rattle.lines.specs.declared.command.Command.{Command}
 use Rattle.lines.specs.declared.word.Word.{Word}
-use Rattle.lines.specs.declared.word.Word.TheVariants.{New, Add, Code, Delete, Read, ReadHex, Cursor, CursorHex, Feed, FeedHex, Token, Peek, Last, Walk, Finish, Kind, Tally, Edition, Note}
+use Rattle.lines.specs.declared.word.Word.TheVariants.{New, Add, Code, Delete, Pattern, PatternHex, Read, ReadHex, Cursor, CursorHex, Feed, FeedHex, Token, Peek, Last, Walk, Finish, Kind, Tally, Edition, Note}
 
 makes_decodable : (w : Word) (rest : Option (List ℕ)) (c : Command) → Makes w rest c → Decodable c
 makes_decodable New rest c h = subst Decodable (sym h.3) tt
 makes_decodable Add rest c h = subst Decodable (sym h.3.3.1) tt
 makes_decodable Code rest c h = subst Decodable (sym h.3.3.1) h.3.3.3
 makes_decodable Delete rest c h = subst Decodable (sym h.2) tt
+makes_decodable Pattern rest c h = subst Decodable (sym h.1) tt
+makes_decodable PatternHex rest c h = subst Decodable (sym h.1) h.3
 makes_decodable Read rest c h = subst Decodable (sym h.1) tt
 makes_decodable ReadHex rest c h = subst Decodable (sym h.1) h.3
 makes_decodable Cursor rest c h = subst Decodable (sym h.3.1) tt

@@ -10,7 +10,7 @@ use Rattle.lines.specs.Lines.{book_word, spelling}
 use Rattle.lines.specs.declared.command.BookName.{BookName}
 use Rattle.lines.specs.declared.command.BookName.TheVariants.{Numbers}
 use Rattle.lines.specs.declared.word.Word.{Word}
-use Rattle.lines.specs.declared.word.Word.TheVariants.{New, Add, Code, Delete, Read, ReadHex, Cursor, CursorHex, Feed, FeedHex, Token, Peek, Last, Walk, Finish, Kind, Tally, Edition, Note}
+use Rattle.lines.specs.declared.word.Word.TheVariants.{New, Add, Code, Delete, Pattern, PatternHex, Read, ReadHex, Cursor, CursorHex, Feed, FeedHex, Token, Peek, Last, Walk, Finish, Kind, Tally, Edition, Note}
 
 abbrev letters : List ℕ → Bool
 letters [] = true
@@ -32,7 +32,7 @@ among (w ∷ ws) l = cond (bytes_eq l (spelling w)) w (among ws l)
 
 abbrev named : List ℕ → Word
 named =
-    among (New ∷ Add ∷ Code ∷ Delete ∷ Read ∷ ReadHex ∷ Cursor ∷ CursorHex ∷ Feed ∷ FeedHex ∷ Token ∷ Peek ∷ Last ∷ Walk ∷ Finish ∷ Kind ∷ Tally ∷ Edition ∷ [])
+    among (New ∷ Add ∷ Code ∷ Delete ∷ Pattern ∷ PatternHex ∷ Read ∷ ReadHex ∷ Cursor ∷ CursorHex ∷ Feed ∷ FeedHex ∷ Token ∷ Peek ∷ Last ∷ Walk ∷ Finish ∷ Kind ∷ Tally ∷ Edition ∷ [])
 
 sound : (w : Word) → (named (spelling w) ≡ w) × (letters (spelling w) ≡ true)
 sound New = (refl, refl)

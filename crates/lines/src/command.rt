@@ -24,6 +24,9 @@ pub enum Command<'a> {
         digits: &'a [u8],
     },
     Delete(u32),
+    // the commands of a pattern text, which stands as it is, or in hex digits
+    Pattern(&'a [u8]),
+    PatternHex(&'a [u8]),
     // what is done with a text, which stands as it is
     Plain {
         task: Task,

@@ -52,6 +52,8 @@ fn with_arguments<'a>(word: Word, rest: Behind<'a>) -> Result<Command<'a>, Expec
             })
         }
         Word::Delete => rest.number().map(|rule| Command::Delete(rule)),
+        Word::Pattern => rest.text().map(|text| Command::Pattern(text)),
+        Word::PatternHex => rest.hex_digits().map(|digits| Command::PatternHex(digits)),
         Word::Read => as_text(rest, Task::Read),
         Word::ReadHex => as_hex(rest, Task::Read),
         Word::Cursor => {

@@ -1,5 +1,5 @@
 -- What a command does in a session, and the text of its answer.
-use Rattle.std.specs.Prelude.{◌≡◌, ℕ, false, ◌⊎◌, List, map, Some, None, codes, Option}
+use Rattle.std.specs.Prelude.{◌≡◌, ℕ, false, ◌⊎◌, List, map, Some, None, Ok, Err, codes, Option, Result}
 use Rattle.std.specs.List.{AllByRecursion}
 use Rattle.states.specs.Sets.{has_rule}
 use Rattle.books.specs.Meaning.{Meaning, Model}
@@ -13,6 +13,10 @@ use Rattle.reader.specs.Answers.{change_refusal}
 use Rattle.numbers.specs.Number.{number_model}
 use Rattle.templates.specs.Templates.{template_refusal}
 use Rattle.expressions.specs.Rules.{refusal as expression_refusal}
+use Rattle.patterns.specs.Outcome.{outcome}
+use Rattle.patterns.specs.Reading.{E, written as written_commands}
+use Rattle.patterns.specs.Refusals.{told as fault_told}
+use Rattle.patterns.specs.declared.faults.PatternFault.{PatternFault}
 use Rattle.event_words.specs.Words.{InRange, Named, NamesEach, named_code, words}
 use Rattle.lines.specs.Hex.{written}
 use Rattle.lines.specs.Lines.{BySpelling, Spells}
@@ -23,7 +27,7 @@ use Rattle.lines.specs.declared.command.Expected.TheVariants as expected
 use Rattle.lines.specs.declared.command.Task.{Task}
 use Rattle.lines.specs.declared.command.Command.{Command}
 use Rattle.lines.specs.declared.command.Command.TheVariants as command
-use Rattle.answers.specs.Texts.{new_line, last_line, refused_line, shown_bytes, shown_events}
+use Rattle.answers.specs.Texts.{new_line, last_line, pattern_line, refused_line, shown_bytes, shown_events}
 use Rattle.contexts.specs.Uses.{Use, new_use, Changes, Obeys, Shows, Takes, Wants, wanting, wanting_cursor, wanting_for}
 
 -- The name of the book in use, and the reader over it.
@@ -53,11 +57,16 @@ Codes Templates rule kind bytes u w answer = AddsBy template_refusal (codes "cod
 Codes Expressions rule kind bytes u w answer = AddsBy (expression_refusal 255) (codes "code") rule kind bytes u w answer
 Codes Events rule kind bytes u w answer = AddsBy (expression_refusal 65535) (codes "code") rule kind bytes u w answer
 
+-- a rule is added by the commands that a pattern text comes to; where the text is refused, that is answered, and nothing else is done
+abbrev pub AddsPattern : ℕ → ℕ → Result E PatternFault → Use → Use → List ℕ → Type 0
+AddsPattern rule kind (Ok e) u w answer = AddsBy (expression_refusal 255) (codes "add") rule kind (written_commands e) u w answer
+AddsPattern rule kind (Err f) u w answer = (w ≡ u) × (answer ≡ refused_line (fault_told f))
+
 -- a rule is added to the book of this name by the text that a person types for it
 abbrev pub Adds : BookName → ℕ → ℕ → List ℕ → Use → Use → List ℕ → Type 0
 Adds Numbers rule kind text u w answer = ⊥
 Adds Templates rule kind text u w answer = AddsBy template_refusal (codes "add") rule kind text u w answer
-Adds Expressions rule kind text u w answer = ⊥
+Adds Expressions rule kind text u w answer = AddsPattern rule kind (outcome text) u w answer
 Adds Events rule kind text u w answer = ⊥
 
 -- a rule of the book of this name is deleted
@@ -81,15 +90,30 @@ wanting_change Events = None
 abbrev pub LacksChange : BookName → Use → Expected → Type 0
 LacksChange book u x = wanting_change book ≡ Some x
 
--- and where a rule is added by what a person types, a book whose rules can be typed
+-- and where a rule is added by what a person types, a book whose rules are typed
 abbrev pub wanting_typed : BookName → Option Expected
 wanting_typed Numbers = Some expected.Changing
 wanting_typed Templates = None
-wanting_typed Expressions = Some expected.Code
+wanting_typed Expressions = None
 wanting_typed Events = Some expected.Code
 
 abbrev pub LacksTyped : BookName → Use → Expected → Type 0
 LacksTyped book u x = wanting_typed book ≡ Some x
+
+-- whatever is in use suffices
+abbrev pub NeverLacks : Use → Expected → Type 0
+NeverLacks u x = ⊥
+
+-- ── Pattern texts ──
+
+-- what is answered of a pattern text: its commands, or its refusal
+abbrev pub pattern_answer : Result E PatternFault → List ℕ
+pattern_answer (Ok e) = pattern_line (written_commands e)
+pattern_answer (Err f) = refused_line (fault_told f)
+
+-- a pattern text is told, and what is in use stays
+abbrev pub TellsPattern : List ℕ → Here → Here → List ℕ → Type 0
+TellsPattern text h k answer = (k ≡ h) × (answer ≡ pattern_answer (outcome text))
 
 -- ── Texts ──
 
@@ -143,6 +167,8 @@ Runs (command.New book edition) h k answer =
 Runs (command.Add rule kind text) h k answer = Within (λ book. Adds book rule kind text.now) h k answer
 Runs (command.Code rule kind digits) h k answer = Within (λ book. Codes book rule kind (written digits.now)) h k answer
 Runs (command.Delete rule) h k answer = Within (λ book. Deletes book rule) h k answer
+Runs (command.Pattern text) h k answer = TellsPattern text.now h k answer
+Runs (command.PatternHex digits) h k answer = TellsPattern (written digits.now) h k answer
 Runs (command.Plain task text) h k answer = Within (λ book. TakesText book task text.now) h k answer
 Runs (command.Hex task digits) h k answer = Within (λ book. TakesText book task (written digits.now)) h k answer
 Runs command.Last h k answer = Within (λ book. Shows (last_line (shown book))) h k answer
@@ -154,6 +180,8 @@ Lacks (command.New book edition) h x = ⊥
 Lacks (command.Add rule kind text) h x = Missing LacksTyped h x
 Lacks (command.Code rule kind digits) h x = Missing LacksChange h x
 Lacks (command.Delete rule) h x = Missing LacksChange h x
+Lacks (command.Pattern text) h x = ⊥
+Lacks (command.PatternHex digits) h x = ⊥
 Lacks (command.Plain task text) h x = Missing (λ book. LacksText book task text.now) h x
 Lacks (command.Hex task digits) h x = Missing (λ book. LacksText book task (written digits.now)) h x
 Lacks command.Last h x = Missing (λ _. Wants wanting_cursor) h x

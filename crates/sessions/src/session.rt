@@ -1,12 +1,14 @@
 // A session: the reader in use, and the commands that it runs.
-ghost use Rattle.std.specs.Prelude.{◌≡◌, IfOk};
+ghost use Rattle.std.specs.Prelude.{◌≡◌, ◌++◌, IfOk, IfErr, OnOk, string_bytes};
 ghost use Rattle.books.specs.Meaning.{Model};
 ghost use Rattle.answers.specs.Texts.{last_line};
 ghost use Rattle.lines.specs.Lines.{Decodable};
 ghost use Rattle.passes.specs.Runs.{Ran};
+ghost use Rattle.passes.specs.declared.fault.Fault.TheVariants.{NoMemory};
+ghost use Rattle.patterns.specs.Outcome.{outcome};
 ghost use Rattle.contexts.specs.Contexts.{use_of};
 ghost use Rattle.contexts.specs.Uses.{Obeys, Shows, Wants, new_use, wanting, wanting_cursor};
-ghost use Rattle.sessions.specs.Sessions.{Adds, Codes, Deletes, Here, Lacks, LacksChange, LacksEvents, LacksText, LacksTyped, Missing, NewBook, Runs, RunsLine, TakesEvents, TakesText, Unfit, Within, shown};
+ghost use Rattle.sessions.specs.Sessions.{Adds, AddsPattern, Codes, Deletes, Here, Lacks, LacksChange, LacksEvents, LacksText, LacksTyped, Missing, NeverLacks, NewBook, Runs, RunsLine, TakesEvents, TakesText, Unfit, Within, pattern_answer, shown};
 ghost use Rattle.expression_book.specs.Tables.{book_model};
 ghost use Rattle.sessions.specs.Views.{here_of};
 ghost use Rattle.symbols.specs.contracts.event.EventSymbol.TheImpl.{ghosts as event_symbol};
@@ -18,6 +20,7 @@ use expression_book::ExpressionBook;
 use lines::{BookName, Command, Expected, Order, Task, bytes_of, parse};
 use numbers::NumberBook;
 use passes::LineRunner;
+use patterns::{VecFault, to_vec};
 use reader::Reader;
 use std::alloc::{AllocError, Global};
 use symbols::{Event, Symbol};
@@ -86,12 +89,17 @@ impl Session {
                 *self = Session::new(heap, book, edition)?;
                 Ok(answers::new_reader(out, book, edition)?)
             }
-            Command::Add { rule, kind, text } => self.add(rule, kind, text, out),
+            Command::Add { rule, kind, text } => self.add(heap, rule, kind, text, out),
             Command::Code { rule, kind, digits } => {
                 let bytes = bytes_of(heap, digits)?;
                 self.code(rule, kind, &bytes, out)
             }
             Command::Delete(rule) => self.delete(rule, out),
+            Command::Pattern(text) => pattern(heap, text, out),
+            Command::PatternHex(digits) => {
+                let text = bytes_of(heap, digits)?;
+                pattern(heap, &text, out)
+            }
             Command::Plain { task, text } => self.take(heap, task, text, out),
             Command::Hex { task, digits } => {
                 let bytes = bytes_of(heap, digits)?;
@@ -102,16 +110,22 @@ impl Session {
         }
     }
 
-    // Adds a rule by the text that a person types for it.
-    fn add(&mut self, rule: u32, kind: u32, text: &[u8], out: &mut String) -> Result<(), Fault>
+    // Adds a rule by the text that a person types for it: a template, or a pattern text.
+    fn add(
+        &mut self,
+        heap: Global,
+        rule: u32,
+        kind: u32,
+        text: &[u8],
+        out: &mut String,
+    ) -> Result<(), Fault>
         ensures { Ran result here_of (Within (λ book. Adds book rule kind text.now)) (Missing LacksTyped) self.old self.new out.old out.new }
     {
         match &mut self.context {
             AnyContext::Numbers(_) => Err(Fault::Malformed(Expected::Changing)),
             AnyContext::Templates(context) => Ok(context.add("add", rule, kind, text, out)?),
-            AnyContext::Expressions(_) | AnyContext::Events(_) => {
-                Err(Fault::Malformed(Expected::Code))
-            }
+            AnyContext::Expressions(context) => add_pattern(context, heap, rule, kind, text, out),
+            AnyContext::Events(_) => Err(Fault::Malformed(Expected::Code)),
         }
     }
 
@@ -179,6 +193,36 @@ fn in_use<B: Book + Drop>(heap: Global, book: B, edition: u32) -> Result<Context
 {
     let reader = Reader::new(heap, book, edition)?;
     Ok(Context::new(reader))
+}
+
+// Adds a rule by a pattern text. One that is refused is answered so, and nothing else is done.
+fn add_pattern(
+    context: &mut Context<ExpressionBook<u8>>,
+    heap: Global,
+    rule: u32,
+    kind: u32,
+    text: &[u8],
+    out: &mut String,
+) -> Result<(), Fault>
+    ensures { Ran result use_of (AddsPattern rule kind (outcome text.now)) NeverLacks context.old context.new out.old out.new }
+{
+    match to_vec(heap, text) {
+        Ok(commands) => Ok(context.add("add", rule, kind, &commands, out)?),
+        Err(VecFault::Refused(fault)) => Ok(answers::refused(out, fault.tell())?),
+        Err(VecFault::NoMemory) => Err(Fault::NoMemory),
+    }
+}
+
+// Tells the commands of a pattern text.
+fn pattern(heap: Global, text: &[u8], out: &mut String) -> Result<(), Fault>
+    ensures answer { OnOk result (string_bytes out.new ≡ string_bytes out.old ++ pattern_answer (outcome text.now)) }
+    ensures fault { IfErr result (λ f. f ≡ NoMemory) }
+{
+    match to_vec(heap, text) {
+        Ok(commands) => Ok(answers::pattern(heap, out, &commands)?),
+        Err(VecFault::Refused(fault)) => Ok(answers::refused(out, fault.tell())?),
+        Err(VecFault::NoMemory) => Err(Fault::NoMemory),
+    }
 }
 
 // Takes a text over events. A word out of range is refused before anything else is done. No `?` takes the three refusals on,
