@@ -1,0 +1,3 @@
+mod Batches
+mod Denoted
+mod Running

@@ -1,0 +1,3 @@
+-- Which bytes are a batch (Records), and what running it does (Runs).
+pub mod Records
+pub mod Runs
