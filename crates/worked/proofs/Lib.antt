@@ -1,0 +1,10 @@
+mod Denoted
+mod Rules
+mod Pairs
+mod Calls
+mod Patterns
+mod Answering
+mod Three
+mod Texts
+mod Tokens
+mod Changes
