@@ -6,6 +6,7 @@ use Rattle.books.specs.Meaning.{Model}
 use Rattle.books.specs.Refusals.{told}
 use Rattle.books.specs.declared.refusal.Refusal.{Refusal}
 use Rattle.readings.specs.Views.{View, fresh}
+use Rattle.readings.specs.Readings.{Told}
 use Rattle.readings.specs.Readings.Reading.{whole, token, peek, feed}
 use Rattle.readings.specs.Readings.Told.{ended}
 use Rattle.readings.specs.Calls.{Call, Does}
@@ -175,12 +176,13 @@ abbrev pub change_text : List ℕ → ℕ → Result ℕ Refusal → List ℕ
 change_text word rule (Ok edition) = change_line word rule edition
 change_text word rule (Err e) = refused_line (told e)
 
--- a rule is added or deleted by a call, which is refused as `refusal` says, if it is
-pub record Changes (word : List ℕ) (rule : ℕ) (call : Call) (refusal : Option Refusal) (u w : Use) (answer : List ℕ) : Type 0 where
+-- a rule is added or deleted by a call, which is refused as `refusal` says, if it is, and does what `action` says of the book in use
+pub record Changes (word : List ℕ) (rule : ℕ) (action : Call → Told → ℕ → View → View → Type 0) (call : Call) (refusal : Option Refusal) (u w : Use) (answer : List ℕ) : Type 0 where
   pub result : Result ℕ Refusal
   pub reader : View
   pub refuses : result_err result ≡ refusal
   pub does : Does call (change_told result) 0 u.reader reader
+  pub acts : action call (change_told result) 0 u.reader reader
   pub after : w ≡ with_reader u reader
   pub tells : answer ≡ change_text word rule result
 

@@ -2,6 +2,7 @@
 ghost use Rattle.std.specs.Prelude.{codes};
 ghost use Rattle.books.specs.Changes.{delete_refusal};
 ghost use Rattle.readings.specs.Calls.Call.{add as adding, delete as deleting};
+ghost use Rattle.readings.specs.Changing.{Acts};
 ghost use Rattle.reader.specs.Answers.{change_refusal};
 ghost use Rattle.passes.specs.Runs.{Done};
 ghost use Rattle.contexts.specs.Uses.{Changes};
@@ -23,7 +24,7 @@ impl<B: ChangingBook> Context<B> {
         out: &mut String,
     ) -> Result<(), AllocError>
         ensures { Done result use_of
-            (Changes word.now rule (adding rule kind bytes.now)
+            (Changes word.now rule (Acts B.ChangingBook.refusal B.ChangingBook.grows B.ChangingBook.shrinks) (adding rule kind bytes.now)
             (change_refusal self.old.reader.edition (B.ChangingBook.refusal (B.Book.model self.old.reader.book).meaning rule kind bytes.now)))
             self.old self.new out.old out.new }
     {
@@ -34,7 +35,7 @@ impl<B: ChangingBook> Context<B> {
     // Deletes a rule.
     pub fn delete(&mut self, rule: u32, out: &mut String) -> Result<(), AllocError>
         ensures { Done result use_of
-            (Changes (codes "delete") rule (deleting rule)
+            (Changes (codes "delete") rule (Acts B.ChangingBook.refusal B.ChangingBook.grows B.ChangingBook.shrinks) (deleting rule)
             (change_refusal self.old.reader.edition (delete_refusal (B.Book.model self.old.reader.book).meaning rule)))
             self.old self.new out.old out.new }
     {

@@ -1,10 +1,10 @@
 -- A number that comes first is parted from what follows in one way only.
-use Rattle.std.proofs.Common.{◌≡◌, ℕ, ◌<◌, ◌≤◌, min, List, [], ◌∷◌, Some, Ok, Err, Option, Result, sym, ap, ◌∙◌, subst, arith, lit≤}
+use Rattle.std.proofs.Common.{◌≡◌, ℕ, ◌<◌, ◌≤◌, min, List, [], ◌∷◌, Some, Ok, Err, Option, Result, sym, inr, ap, ◌∙◌, subst, arith, lit≤}
 use Rattle.std.specs.Str.Parse.{AllDigits, digits_value}
 use Rattle.std.specs.Char.{digit_value}
 use Rattle.lines.specs.Numerals.{Number, last}
 use Rattle.lines.specs.Parts.{Lacks, Parts}
-use Rattle.lines.specs.Lines.{Leads, Led, Parses, joined}
+use Rattle.lines.specs.Lines.{ExpectsLed, Leads, Led, Parses, joined}
 use Rattle.lines.specs.declared.command.Command.{Command}
 use Rattle.lines.specs.declared.command.Expected.{Expected}
 use Rattle.lines.proofs.Parting.{joined_parts, one_parting}
@@ -41,7 +41,7 @@ led_refused makes rest more n h none c k =
     none c (subst (λ m. makes n m c) s.1 (subst (λ x. makes x k.1 c) s.0 k.3))
 
 -- what is answered behind the number that leads is answered of the whole
-pub led_answers : (makes : ℕ → Option (List ℕ) → Command → Type 0) (rest more : Option (List ℕ)) (n : ℕ) → Leads rest n more →
-    (r : Result Command Expected) → Parses (makes n more) r → Parses (Led makes rest) r
-led_answers makes rest more n h (Ok c) k = (n, more, h, k)
-led_answers makes rest more n h (Err e) k = (k.0, led_refused makes rest more n h k.1)
+pub led_answers : (makes : ℕ → Option (List ℕ) → Command → Type 0) (expects : Option (List ℕ) → Expected → Type 0) (rest more : Option (List ℕ)) (n : ℕ) →
+    Leads rest n more → (r : Result Command Expected) → Parses (makes n more) (expects more) r → Parses (Led makes rest) (ExpectsLed expects rest) r
+led_answers makes expects rest more n h (Ok c) k = (n, more, h, k)
+led_answers makes expects rest more n h (Err e) k = (inr (n, more, h, k.0), led_refused makes rest more n h k.1)

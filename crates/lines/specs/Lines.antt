@@ -1,5 +1,5 @@
 -- Which lines spell which command.
-use Rattle.std.specs.Prelude.{◌≡◌, ◌≢◌, ℕ, List, [], ◌∷◌, ◌++◌, Some, None, codes, Option, Result, MatchResult}
+use Rattle.std.specs.Prelude.{◌≡◌, ◌≢◌, ℕ, ◌⊎◌, List, [], ◌∷◌, ◌++◌, Some, None, codes, Option, Result, MatchResult}
 use Rattle.std.specs.Option.{option_copied}
 use Rattle.std.specs.Borrow.{Bor}
 use Rattle.lines.specs.Numerals.{Number, Number32}
@@ -50,21 +50,6 @@ spelling word.Kind = codes "kind"
 spelling word.Tally = codes "tally"
 spelling word.Edition = codes "edition"
 spelling word.Note = codes "note"
-
--- what can be expected of a line for its spelling alone, whatever is in use
-abbrev pub BySpelling : Expected → Type 0
-BySpelling expected.Command = Unit {0}
-BySpelling expected.Book = Unit {0}
-BySpelling expected.Edition = Unit {0}
-BySpelling expected.Number = Unit {0}
-BySpelling expected.Text = Unit {0}
-BySpelling expected.HexDigits = Unit {0}
-BySpelling expected.NoArgument = Unit {0}
-BySpelling expected.Changing = ⊥
-BySpelling expected.Code = ⊥
-BySpelling expected.Events = ⊥
-BySpelling expected.Cursor = ⊥
-BySpelling expected.Walk = ⊥
 
 -- what reading the name of a book answers
 abbrev pub IsBook : List ℕ → Result BookName Expected → Type 0
@@ -154,13 +139,61 @@ Decodable (command.Hex t digits) = Hex digits.now
 Decodable command.Last = Unit {0}
 Decodable (command.Order o) = Unit {0}
 
--- a command that passes `makes` is answered, or what the spelling lacks, where there is none
-abbrev pub Parses : {C : Type 0} → (C → Type 0) → Result C Expected → Type 0
-Parses {C} makes r = MatchResult r makes (λ x. BySpelling x × ((c : C) → makes c → ⊥))
+-- ── What is expected of a line that spells no command: the first part that is not there, or not as it should be ──
 
--- parsing answers a command that the line spells, or what its spelling lacks, where it spells none
+-- the name of a book, or an edition behind it
+abbrev pub ExpectsNew : Option (List ℕ) → Expected → Type 0
+ExpectsNew rest x =
+    ((x ≡ expected.Book) × ((book : BookName) (more : Option (List ℕ)) → rest ≢ Some (joined (book_word book) more)))
+    ⊎ ((x ≡ expected.Edition) × (book : BookName) × (more : Option (List ℕ)) × (rest ≡ Some (joined (book_word book) more)))
+
+-- a number that comes first, or what is expected behind it
+abbrev pub ExpectsLed : (Option (List ℕ) → Expected → Type 0) → Option (List ℕ) → Expected → Type 0
+ExpectsLed expects rest x =
+    ((x ≡ expected.Number) × ((n : ℕ) (more : Option (List ℕ)) → Leads rest n more → ⊥))
+    ⊎ ((n : ℕ) × (more : Option (List ℕ)) × Leads rest n more × expects more x)
+
+-- this one part, which is all that can be missing
+abbrev pub ExpectsOne : Expected → Option (List ℕ) → Expected → Type 0
+ExpectsOne y rest x = x ≡ y
+
+-- behind a word, where what stands there makes no command
+abbrev pub Expects : Word → Option (List ℕ) → Expected → Type 0
+Expects word.New = ExpectsNew
+Expects word.Add = ExpectsLed (ExpectsLed (ExpectsOne expected.Text))
+Expects word.Code = ExpectsLed (ExpectsLed (ExpectsOne expected.HexDigits))
+Expects word.Delete = ExpectsOne expected.Number
+Expects word.Pattern = ExpectsOne expected.Text
+Expects word.PatternHex = ExpectsOne expected.HexDigits
+Expects word.Read = ExpectsOne expected.Text
+Expects word.ReadHex = ExpectsOne expected.HexDigits
+Expects word.Cursor = ExpectsLed (ExpectsOne expected.Text)
+Expects word.CursorHex = ExpectsLed (ExpectsOne expected.HexDigits)
+Expects word.Feed = ExpectsOne expected.Text
+Expects word.FeedHex = ExpectsOne expected.HexDigits
+Expects word.Token = ExpectsOne expected.NoArgument
+Expects word.Peek = ExpectsOne expected.NoArgument
+Expects word.Last = ExpectsOne expected.NoArgument
+Expects word.Walk = ExpectsOne expected.NoArgument
+Expects word.Finish = ExpectsOne expected.NoArgument
+Expects word.Kind = ExpectsOne expected.Number
+Expects word.Tally = ExpectsOne expected.NoArgument
+Expects word.Edition = ExpectsOne expected.NoArgument
+Expects word.Note = ExpectsOne expected.NoArgument
+
+-- the first word of a command, or what is expected behind it
+abbrev pub Misspells : List ℕ → Expected → Type 0
+Misspells line x =
+    ((x ≡ expected.Command) × ((w : Word) (rest : Option (List ℕ)) → line ≢ joined (spelling w) rest))
+    ⊎ ((w : Word) × (rest : Option (List ℕ)) × (line ≡ joined (spelling w) rest) × Expects w rest x)
+
+-- a command that passes `makes` is answered, or what is expected, where there is none
+abbrev pub Parses : {C : Type 0} → (C → Type 0) → (Expected → Type 0) → Result C Expected → Type 0
+Parses {C} makes expects r = MatchResult r makes (λ x. expects x × ((c : C) → makes c → ⊥))
+
+-- parsing answers a command that the line spells, or what is expected of it, where it spells none
 abbrev pub Answers : List ℕ → Result Command Expected → Type 0
-Answers line r = Parses (Spells line) r
+Answers line r = Parses (Spells line) (Misspells line) r
 
 -- what was expected of a malformed line, in words
 abbrev pub expected_text : Expected → List ℕ

@@ -1,7 +1,7 @@
 // The arguments of a command: what stands behind its word and a space, if there is a space.
 ghost use Rattle.std.specs.Prelude.{◌≡◌, ℕ, List, Some as Just, Option as Maybe, MatchResult, ◌≢◌};
 ghost use Rattle.lines.specs.Hex.{Hex};
-ghost use Rattle.lines.specs.Lines.{Alone, AsNew, Leads, Parses, behind};
+ghost use Rattle.lines.specs.Lines.{Alone, AsNew, ExpectsNew, Leads, Parses, behind};
 ghost use Rattle.lines.specs.Numerals.{Number, Number32};
 
 use crate::command::{BookName, Command, Expected};
@@ -66,7 +66,7 @@ impl<'a> Behind<'a> {
 
     // The name of a book, a space and an edition.
     pub(crate) fn new_reader(self) -> Result<Command<'a>, Expected>
-        ensures { Parses (AsNew (behind self.entry)) result }
+        ensures { Parses (AsNew (behind self.entry)) (ExpectsNew (behind self.entry)) result }
     {
         let text = self.0.ok_or(Expected::Book)?;
         let Parted { first, rest } = part(text, SPACE);

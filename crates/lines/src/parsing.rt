@@ -1,6 +1,6 @@
 // Which command a line spells.
 ghost use Rattle.std.specs.Prelude.{Decides};
-ghost use Rattle.lines.specs.Lines.{Answers, AsHex, AsText, Makes, Parses, Skipped, behind};
+ghost use Rattle.lines.specs.Lines.{Answers, AsHex, AsText, Expects, ExpectsOne, Makes, Parses, Skipped, behind};
 
 use crate::arguments::Behind;
 use crate::command::{Command, Expected, Order, Task};
@@ -25,7 +25,7 @@ pub fn parse(line: &[u8]) -> Result<Command<'_>, Expected>
 
 // The command that a word and what stands behind it make.
 fn with_arguments<'a>(word: Word, rest: Behind<'a>) -> Result<Command<'a>, Expected>
-    ensures { Parses (Makes word (behind rest.entry)) result }
+    ensures { Parses (Makes word (behind rest.entry)) (Expects word (behind rest.entry)) result }
 {
     // A match, and no table of closures: of each word it is stated what arguments it takes, and the arms take different ones.
     match word {
@@ -81,14 +81,14 @@ fn with_arguments<'a>(word: Word, rest: Behind<'a>) -> Result<Command<'a>, Expec
 // What is done with a text as it stands. The next does the same with a text in hex digits: one for both would be handed how the text
 // is read and what it makes, which is all that each of them says.
 fn as_text<'a>(rest: Behind<'a>, task: Task) -> Result<Command<'a>, Expected>
-    ensures { Parses (AsText (Command.Plain task) (behind rest.entry)) result }
+    ensures { Parses (AsText (Command.Plain task) (behind rest.entry)) (ExpectsOne Expected.Text (behind rest.entry)) result }
 {
     rest.text().map(|text| Command::Plain { task, text })
 }
 
 // What is done with a text in hex digits.
 fn as_hex<'a>(rest: Behind<'a>, task: Task) -> Result<Command<'a>, Expected>
-    ensures { Parses (AsHex (Command.Hex task) (behind rest.entry)) result }
+    ensures { Parses (AsHex (Command.Hex task) (behind rest.entry)) (ExpectsOne Expected.HexDigits (behind rest.entry)) result }
 {
     rest.hex_digits()
         .map(|digits| Command::Hex { task, digits })

@@ -60,6 +60,13 @@ pub data Goes {V : Type 0} (runs : Running V) (unfit : Expecting V) (p : Place V
   stays : Goes runs unfit p p (record { answers = []; reports = [] })
   then : {q r : Place V} {v w : Written} → Goes runs unfit p q v → Passes runs unfit q r w → Goes runs unfit p r (record { answers = v.answers ++ w.answers; reports = v.reports ++ w.reports })
 
+-- Lines are passed in turn, of which only the last may be reported.
+abbrev pub GoesToReport : {V : Type 0} → Running V → Expecting V → Place V → Place V → Written → Type 0
+GoesToReport {V} runs unfit p q w =
+    (Goes runs unfit p q w × (w.reports ≡ []))
+    ⊎ ((m : Place V) × (v : Written) × (u : Written) × Goes runs unfit p m v × (v.reports ≡ []) × Passes runs unfit m q u
+    × (w ≡ record { answers = v.answers ++ u.answers; reports = u.reports }))
+
 -- what is appended to the texts of answers and reports, as R says
 abbrev pub Appends : (Written → Type 0) → List ℕ → List ℕ → List ℕ → List ℕ → Type 0
 Appends R answers answers' reports reports' =

@@ -1,6 +1,6 @@
 // A script and how far it was run.
 ghost use Rattle.std.specs.Prelude.{◌≡◌, ◌<◌, true, false, is_some, IfOk, Some, string_bytes, OnOk};
-ghost use Rattle.passes.specs.Scripts.{Appends, Goes, Passes, left};
+ghost use Rattle.passes.specs.Scripts.{Appends, GoesToReport, Passes, left};
 ghost use Rattle.passes.specs.Places.{place_of};
 
 use crate::fault::Fault;
@@ -51,7 +51,7 @@ impl<'s, S: LineRunner> Script<'s, S> {
     ) -> Result<bool, AllocError>
         ensures rest { IfOk result (λ more. more ≡ is_some (place_of S.seen self.new).rest) }
         ensures less { IfOk result (λ more. more ≡ true → left (place_of S.seen self.new).rest < left (place_of S.seen self.old).rest) }
-        ensures goes { OnOk result (Appends (Goes S.Runs S.Unfit (place_of S.seen self.old) (place_of S.seen self.new))
+        ensures goes { OnOk result (Appends (GoesToReport S.Runs S.Unfit (place_of S.seen self.old) (place_of S.seen self.new))
             (string_bytes out.old) (string_bytes out.new) (string_bytes errors.old) (string_bytes errors.new)) }
     {
         while let Some(script) = self.rest {

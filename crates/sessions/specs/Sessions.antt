@@ -2,24 +2,28 @@
 use Rattle.std.specs.Prelude.{◌≡◌, ℕ, false, ◌⊎◌, List, map, Some, None, Ok, Err, codes, Option, Result}
 use Rattle.std.specs.List.{AllByRecursion}
 use Rattle.states.specs.Sets.{has_rule}
-use Rattle.books.specs.Meaning.{Meaning, Model}
+use Rattle.books.specs.Meaning.{Model, counting}
 use Rattle.books.specs.Refusals.{told}
-use Rattle.books.specs.declared.faults.BookFault.{BookFault}
 use Rattle.books.specs.declared.refusal.Refusal.TheVariants.{NoSuchEvent}
 use Rattle.books.specs.Texts.{meets}
 use Rattle.books.specs.Changes.{delete_refusal}
+use Rattle.readings.specs.Views.{View}
+use Rattle.readings.specs.Readings.{Told}
+use Rattle.readings.specs.Calls.{Call}
 use Rattle.readings.specs.Calls.Call.{add, delete}
+use Rattle.readings.specs.Changing.{Acts}
 use Rattle.reader.specs.Answers.{change_refusal}
 use Rattle.numbers.specs.Number.{number_model}
-use Rattle.templates.specs.Templates.{template_refusal}
+use Rattle.templates.specs.Templates.{TemplateAdded, TemplateDeleted, template_refusal}
 use Rattle.expressions.specs.Rules.{refusal as expression_refusal}
+use Rattle.alike.specs.Runs.{ExpressionActs}
 use Rattle.patterns.specs.Outcome.{outcome}
 use Rattle.patterns.specs.Reading.{E, written as written_commands}
 use Rattle.patterns.specs.Refusals.{told as fault_told}
 use Rattle.patterns.specs.declared.faults.PatternFault.{PatternFault}
 use Rattle.event_words.specs.Words.{InRange, Named, NamesEach, named_code, words}
 use Rattle.lines.specs.Hex.{written}
-use Rattle.lines.specs.Lines.{BySpelling, Spells}
+use Rattle.lines.specs.Lines.{Misspells, Spells}
 use Rattle.lines.specs.declared.command.BookName.{BookName}
 use Rattle.lines.specs.declared.command.BookName.TheVariants.{Numbers, Templates, Expressions, Events}
 use Rattle.lines.specs.declared.command.Expected.{Expected}
@@ -45,40 +49,48 @@ Missing L h x = L h.book h.context x
 
 -- ── Changes ──
 
--- a rule is added by its bytes, which the book refuses as `refusal` says
-abbrev pub AddsBy : (Meaning → ℕ → ℕ → List ℕ → Option BookFault) → List ℕ → ℕ → ℕ → List ℕ → Use → Use → List ℕ → Type 0
-AddsBy refusal word rule kind bytes u w answer =
-    Changes word rule (add rule kind bytes) (change_refusal u.reader.edition (refusal u.reader.book.meaning rule kind bytes)) u w answer
+-- what a change does over templates: the rule is the template that its bytes spell; a deleted one is gone; the others stay
+abbrev pub TemplateActs : Call → Told → ℕ → View → View → Type 0
+TemplateActs = Acts template_refusal (λ r k bytes. TemplateAdded r bytes) TemplateDeleted
+
+-- a rule is added by its bytes: to a template book, or to an expression book
+abbrev pub AddsTemplate : List ℕ → ℕ → ℕ → List ℕ → Use → Use → List ℕ → Type 0
+AddsTemplate word rule kind bytes u w answer =
+    Changes word rule TemplateActs (add rule kind bytes) (change_refusal u.reader.edition (template_refusal u.reader.book.meaning rule kind bytes)) u w answer
+
+abbrev pub AddsExpression : ℕ → List ℕ → ℕ → ℕ → List ℕ → Use → Use → List ℕ → Type 0
+AddsExpression last word rule kind bytes u w answer =
+    Changes word rule (ExpressionActs last) (add rule kind bytes) (change_refusal u.reader.edition (expression_refusal last u.reader.book.meaning rule kind bytes)) u w answer
 
 -- a rule is added to the book of this name by its own bytes
 abbrev pub Codes : BookName → ℕ → ℕ → List ℕ → Use → Use → List ℕ → Type 0
 Codes Numbers rule kind bytes u w answer = ⊥
-Codes Templates rule kind bytes u w answer = AddsBy template_refusal (codes "code") rule kind bytes u w answer
-Codes Expressions rule kind bytes u w answer = AddsBy (expression_refusal 255) (codes "code") rule kind bytes u w answer
-Codes Events rule kind bytes u w answer = AddsBy (expression_refusal 65535) (codes "code") rule kind bytes u w answer
+Codes Templates rule kind bytes u w answer = AddsTemplate (codes "code") rule kind bytes u w answer
+Codes Expressions rule kind bytes u w answer = AddsExpression 255 (codes "code") rule kind bytes u w answer
+Codes Events rule kind bytes u w answer = AddsExpression 65535 (codes "code") rule kind bytes u w answer
 
 -- a rule is added by the commands that a pattern text comes to; where the text is refused, that is answered, and nothing else is done
 abbrev pub AddsPattern : ℕ → ℕ → Result E PatternFault → Use → Use → List ℕ → Type 0
-AddsPattern rule kind (Ok e) u w answer = AddsBy (expression_refusal 255) (codes "add") rule kind (written_commands e) u w answer
+AddsPattern rule kind (Ok e) u w answer = AddsExpression 255 (codes "add") rule kind (written_commands e) u w answer
 AddsPattern rule kind (Err f) u w answer = (w ≡ u) × (answer ≡ refused_line (fault_told f))
 
 -- a rule is added to the book of this name by the text that a person types for it
 abbrev pub Adds : BookName → ℕ → ℕ → List ℕ → Use → Use → List ℕ → Type 0
 Adds Numbers rule kind text u w answer = ⊥
-Adds Templates rule kind text u w answer = AddsBy template_refusal (codes "add") rule kind text u w answer
+Adds Templates rule kind text u w answer = AddsTemplate (codes "add") rule kind text u w answer
 Adds Expressions rule kind text u w answer = AddsPattern rule kind (outcome text) u w answer
 Adds Events rule kind text u w answer = ⊥
 
 -- a rule of the book of this name is deleted
-abbrev DeletesRule : ℕ → Use → Use → List ℕ → Type 0
-DeletesRule rule u w answer =
-    Changes (codes "delete") rule (delete rule) (change_refusal u.reader.edition (delete_refusal u.reader.book.meaning rule)) u w answer
+abbrev DeletesRule : (Call → Told → ℕ → View → View → Type 0) → ℕ → Use → Use → List ℕ → Type 0
+DeletesRule acts rule u w answer =
+    Changes (codes "delete") rule acts (delete rule) (change_refusal u.reader.edition (delete_refusal u.reader.book.meaning rule)) u w answer
 
 abbrev pub Deletes : BookName → ℕ → Use → Use → List ℕ → Type 0
 Deletes Numbers rule u w answer = ⊥
-Deletes Templates rule u w answer = DeletesRule rule u w answer
-Deletes Expressions rule u w answer = DeletesRule rule u w answer
-Deletes Events rule u w answer = DeletesRule rule u w answer
+Deletes Templates rule u w answer = DeletesRule TemplateActs rule u w answer
+Deletes Expressions rule u w answer = DeletesRule (ExpressionActs 255) rule u w answer
+Deletes Events rule u w answer = DeletesRule (ExpressionActs 65535) rule u w answer
 
 -- what a change of the book of this name wants: a book whose rules can be changed
 abbrev pub wanting_change : BookName → Option Expected
@@ -149,9 +161,11 @@ shown Events = shown_events
 
 -- ── Commands ──
 
--- no rule is in force, no text meets one, and the book was not yet asked
+-- no rule is in force, no text meets one, and the book was not yet asked; its note counts how often it is
 abbrev pub Blank : Model → Type 0
-Blank b = ((rule : ℕ) → b.meaning.kind rule ≡ None) × ((text : List ℕ) (rule : ℕ) → has_rule (meets b.meaning text) rule ≡ false) × (b.note ≡ 0)
+Blank b =
+    ((rule : ℕ) → b.meaning.kind rule ≡ None) × ((text : List ℕ) (rule : ℕ) → has_rule (meets b.meaning text) rule ≡ false) × (b.note ≡ 0)
+    × (b.noted ≡ counting)
 
 -- a new book of this name
 abbrev pub NewBook : BookName → Model → Type 0
@@ -193,6 +207,6 @@ Lacks (command.Order order) h x = Missing (λ _. Wants (wanting order)) h x
 abbrev pub RunsLine : List ℕ → Here → Here → List ℕ → Type 0
 RunsLine line h k answer = (c : Command) × Spells line c × Runs c h k answer
 
--- x is expected of a line that cannot be run: its spelling lacks x, so that it spells no command, or it spells one that lacks x
+-- x is expected of a line that cannot be run: it spells no command, for want of x, or it spells one that lacks x
 abbrev pub Unfit : List ℕ → Here → Expected → Type 0
-Unfit line h x = (BySpelling x × ((c : Command) → Spells line c → ⊥)) ⊎ ((c : Command) × Spells line c × Lacks c h x)
+Unfit line h x = (Misspells line x × ((c : Command) → Spells line c → ⊥)) ⊎ ((c : Command) × Spells line c × Lacks c h x)

@@ -7,5 +7,5 @@ pub returns : goal.returns
 returns g c =
     let h = c.delete-changed.ensures in
     on_ok_map c.tell_change.result
-    (λ e. (_, e, record { result = c.delete-changed.result; reader = view c.delete-changed.new.self; refuses = h.answer; does = h.does; after = refl; tells = refl }))
+    (λ e. (_, e, record { result = c.delete-changed.result; reader = view c.delete-changed.new.self; refuses = h.answer; does = h.does; acts = h.acts; after = refl; tells = refl }))
     c.tell_change.ensures

@@ -1,4 +1,4 @@
-use Rattle.std.proofs.Common.{◌≡◌, ℕ, sym, ap, ◌∙◌, subst}
+use Rattle.std.proofs.Common.{◌≡◌, ℕ, sym, refl, ap, ◌∙◌, subst}
 use Rattle.books.specs.Meaning.{Model}
 use Rattle.numbers.specs.contracts.book.reading.NumberBookBook.TheImpl.{ghosts as number_reading}
 use Rattle.templates.specs.contracts.book.reading.TemplateBookBook.TheImpl.{ghosts as template_reading}
@@ -25,16 +25,16 @@ pub returns-in_ok-in_use-in-Templates : goal.returns-in_ok-in_use-in-Templates
 returns-in_ok-in_use-in-Templates c =
     let h = c.new-in-Templates.ensures in
     opened c.args.book name.Templates (use_of c.in_ok-in_use-in-Templates.field-0) (template_reading.model c.new-in-Templates.result) c.args.edition c.in-Templates.is
-    (h.rules, h.texts, h.note) c.in_ok-in_use-in-Templates.ensures
+    (h.rules, h.texts, h.note, refl) c.in_ok-in_use-in-Templates.ensures
 
 pub returns-in_ok-in_use-in-Expressions : goal.returns-in_ok-in_use-in-Expressions
 returns-in_ok-in_use-in-Expressions c =
     let h = c.new-in-Expressions.ensures in
     opened c.args.book name.Expressions (use_of c.in_ok-in_use-in-Expressions.field-0) (book_model c.new-in-Expressions.result) c.args.edition c.in-Expressions.is
-    (h.rules, h.texts, h.note) c.in_ok-in_use-in-Expressions.ensures
+    (h.rules, h.texts, h.note, refl) c.in_ok-in_use-in-Expressions.ensures
 
 pub returns-in_ok-in_use-in-Events : goal.returns-in_ok-in_use-in-Events
 returns-in_ok-in_use-in-Events c =
     let h = c.new-in-Events.ensures in
     opened c.args.book name.Events (use_of c.in_ok-in_use-in-Events.field-0) (book_model c.new-in-Events.result) c.args.edition c.in-Events.is
-    (h.rules, h.texts, h.note) c.in_ok-in_use-in-Events.ensures
+    (h.rules, h.texts, h.note, refl) c.in_ok-in_use-in-Events.ensures
