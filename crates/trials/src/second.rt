@@ -1,14 +1,14 @@
 // The second scanner: it reads by the meaning of rules alone, all of it afresh for each text, and shares no code with the first. It has
 // numbers and lists only: no sets of positions, no automaton.
-pub mod answer;
-pub mod begins;
-pub mod calls;
-pub mod class;
-pub mod commands;
-pub mod grid;
-pub mod node;
-pub mod number;
-pub mod parts;
-pub mod pattern;
-pub mod rule;
-pub mod twin;
+pub(crate) mod answer;
+pub(crate) mod begins;
+pub(crate) mod calls;
+pub(crate) mod class;
+pub(crate) mod commands;
+pub(crate) mod grid;
+pub(crate) mod node;
+pub(crate) mod number;
+pub(crate) mod parts;
+pub(crate) mod pattern;
+pub(crate) mod rule;
+pub(crate) mod twin;

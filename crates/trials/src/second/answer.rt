@@ -2,7 +2,7 @@
 
 // A set of rules is told as the sum of the powers of two that are their numbers'.
 #[derive(Clone, Copy, PartialEq, Eq, Debug)]
-pub enum Answer {
+pub(crate) enum Answer {
     Number(u64),
     // the kind of a rule, if it is in force
     Kind(Option<u32>),
@@ -31,12 +31,12 @@ pub enum Answer {
 
 impl Answer {
     // A refusal with no place and no count.
-    pub fn refused(number: u64, layer: u64) -> Answer {
+    pub(crate) fn refused(number: u64, layer: u64) -> Answer {
         Answer::refused_at(number, layer, 0)
     }
 
     // A refusal at a place, with no count.
-    pub fn refused_at(number: u64, layer: u64, place: usize) -> Answer {
+    pub(crate) fn refused_at(number: u64, layer: u64, place: usize) -> Answer {
         Answer::Refused {
             number,
             layer,

@@ -5,7 +5,7 @@ use std::alloc::{AllocError, Global};
 
 // For each node (row) the places of a text where it can begin, when the text is read from its beginning as the whole expression: the
 // whole begins at 0, and what a node is made of begins where the node does, or where what stands before it in the node can end.
-pub fn begins(
+pub(crate) fn begins(
     heap: Global,
     nodes: &[Node],
     parts: &Vec<Grid>,

@@ -7,16 +7,16 @@ use std::alloc::AllocError;
 
 // A text and a place in it, and where the last token begins and ends.
 #[derive(Drop)]
-pub struct Marker {
-    pub text: Vec<u32>,
-    pub place: usize,
-    pub from: usize,
-    pub to: usize,
+pub(crate) struct Marker {
+    pub(crate) text: Vec<u32>,
+    pub(crate) place: usize,
+    pub(crate) from: usize,
+    pub(crate) to: usize,
 }
 
 impl Marker {
     // A place beyond the text's length becomes the length.
-    pub fn new(text: Vec<u32>, place: usize) -> Marker {
+    pub(crate) fn new(text: Vec<u32>, place: usize) -> Marker {
         let place = place.min(text.len());
         Marker {
             text,
@@ -29,13 +29,18 @@ impl Marker {
 
 // A walk: the edition that it began with, and what it was fed.
 #[derive(Drop)]
-pub struct Path {
-    pub edition: u32,
-    pub text: Vec<u32>,
+pub(crate) struct Path {
+    pub(crate) edition: u32,
+    pub(crate) text: Vec<u32>,
 }
 
 impl Twin {
-    pub fn add(&mut self, number: u32, kind: u32, bytes: &[u8]) -> Result<Answer, AllocError> {
+    pub(crate) fn add(
+        &mut self,
+        number: u32,
+        kind: u32,
+        bytes: &[u8],
+    ) -> Result<Answer, AllocError> {
         let meaning = match self.asked(number, kind, bytes)? {
             Ok(meaning) => meaning,
             Err(refused) => return Ok(refused),
@@ -57,7 +62,7 @@ impl Twin {
     }
 
     // How many positions the rules in force have.
-    pub fn positions(&self) -> usize {
+    pub(crate) fn positions(&self) -> usize {
         let mut used: usize = 0;
         for rule in &self.rules {
             used = used.saturating_add(rule.positions());
@@ -105,7 +110,7 @@ impl Twin {
     }
 
     // Pairs whose state holds a leaf or the end of the rule are kept no longer.
-    pub fn delete(&mut self, number: u32) -> Answer {
+    pub(crate) fn delete(&mut self, number: u32) -> Answer {
         if self.edition == u32::MAX {
             return Answer::refused(1, 1);
         }
@@ -118,7 +123,7 @@ impl Twin {
         Answer::Number(u64::from(self.edition))
     }
 
-    pub fn read(&mut self, text: &[u32]) -> Result<Answer, AllocError> {
+    pub(crate) fn read(&mut self, text: &[u32]) -> Result<Answer, AllocError> {
         let states = self.states(text)?;
         let count = self.meet_all(&states, text)?;
         let rules = states.last().map_or(0, |state| self.ended(state));
@@ -126,7 +131,7 @@ impl Twin {
     }
 
     // The longest beginning of the rest, not empty, that some rule's expression denotes.
-    pub fn peek(&mut self, marker: &Marker) -> Result<Answer, AllocError> {
+    pub(crate) fn peek(&mut self, marker: &Marker) -> Result<Answer, AllocError> {
         let rest = marker.text.get(marker.place..).unwrap_or(&[]);
         let place = marker.place as u64;
         let states = self.states(rest)?;
@@ -151,7 +156,7 @@ impl Twin {
         Ok(longest)
     }
 
-    pub fn token(&mut self, marker: &mut Marker) -> Result<Answer, AllocError> {
+    pub(crate) fn token(&mut self, marker: &mut Marker) -> Result<Answer, AllocError> {
         let answer = self.peek(marker)?;
         if let Answer::Token { length, .. } = answer {
             marker.from = marker.place;
@@ -161,7 +166,7 @@ impl Twin {
         Ok(answer)
     }
 
-    pub fn begin(&self) -> Path {
+    pub(crate) fn begin(&self) -> Path {
         Path {
             edition: self.edition,
             text: Vec::new(self.heap),
@@ -169,7 +174,7 @@ impl Twin {
     }
 
     // 1 where the step was worked out, else 0.
-    pub fn feed(&mut self, path: &mut Path, code: u32) -> Result<Answer, AllocError> {
+    pub(crate) fn feed(&mut self, path: &mut Path, code: u32) -> Result<Answer, AllocError> {
         if path.edition != self.edition {
             return Ok(Answer::refused(15, 1));
         }
@@ -179,7 +184,7 @@ impl Twin {
         Ok(Answer::Number(u64::from(self.meet(&state, code)?)))
     }
 
-    pub fn finish(&self, path: &Path) -> Result<Answer, AllocError> {
+    pub(crate) fn finish(&self, path: &Path) -> Result<Answer, AllocError> {
         if path.edition != self.edition {
             return Ok(Answer::refused(15, 1));
         }

@@ -4,21 +4,21 @@ use std::alloc::{AllocError, Global};
 
 // A byte of a class, where it begins, and whether it stands without a '\'.
 #[derive(Clone, Copy)]
-pub struct Member {
-    pub byte: u8,
-    pub place: usize,
-    pub bare: bool,
+pub(crate) struct Member {
+    pub(crate) byte: u8,
+    pub(crate) place: usize,
+    pub(crate) bare: bool,
 }
 
 // A class: for each byte whether it is in it, and where the text goes on behind the ']'.
 #[derive(Drop)]
-pub struct Class {
-    pub flags: Vec<bool>,
-    pub behind: usize,
+pub(crate) struct Class {
+    pub(crate) flags: Vec<bool>,
+    pub(crate) behind: usize,
 }
 
 // The class whose '[' has this place.
-pub fn class_at(
+pub(crate) fn class_at(
     heap: Global,
     text: &[u8],
     open: usize,
@@ -132,7 +132,7 @@ fn put(flags: &mut Vec<bool>, byte: u8) {
 }
 
 // The runs of bytes with a flag, by their first and last byte.
-pub fn runs(heap: Global, flags: &[bool]) -> Result<Vec<(u8, u8)>, AllocError> {
+pub(crate) fn runs(heap: Global, flags: &[bool]) -> Result<Vec<(u8, u8)>, AllocError> {
     let mut runs: Vec<(u8, u8)> = Vec::new(heap);
     for byte in 0..=255u8 {
         if flags.get(usize::from(byte)).copied() != Some(true) {

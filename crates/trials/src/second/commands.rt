@@ -4,13 +4,13 @@ use std::alloc::{AllocError, Global};
 
 // The number of the refusal, and its place.
 #[derive(Clone, Copy)]
-pub struct Fault {
-    pub number: u64,
-    pub place: usize,
+pub(crate) struct Fault {
+    pub(crate) number: u64,
+    pub(crate) place: usize,
 }
 
 // The nodes of the expression that a run spells, over codes up to the last one.
-pub fn nodes(
+pub(crate) fn nodes(
     heap: Global,
     bytes: &[u8],
     last: u32,

@@ -3,24 +3,24 @@ use std::alloc::{AllocError, Global};
 
 // Rows of the same width. A place outside holds false.
 #[derive(Drop)]
-pub struct Grid {
+pub(crate) struct Grid {
     width: usize,
     cells: Vec<bool>,
 }
 
 impl Grid {
     // All of it false.
-    pub fn new(heap: Global, rows: usize, width: usize) -> Result<Grid, AllocError> {
+    pub(crate) fn new(heap: Global, rows: usize, width: usize) -> Result<Grid, AllocError> {
         let cells = vec![in heap; false; rows.saturating_mul(width)]?;
         Ok(Grid { width, cells })
     }
 
-    pub fn has(&self, row: usize, column: usize) -> bool {
+    pub(crate) fn has(&self, row: usize, column: usize) -> bool {
         let at = row.wrapping_mul(self.width).wrapping_add(column);
         self.cells.get(at).copied().unwrap_or(false)
     }
 
-    pub fn put(&mut self, row: usize, column: usize) {
+    pub(crate) fn put(&mut self, row: usize, column: usize) {
         let at = row.wrapping_mul(self.width).wrapping_add(column);
         if let Some(cell) = self.cells.get_mut(at) {
             *cell = true;
@@ -28,7 +28,7 @@ impl Grid {
     }
 
     // Puts into a row all that a row of another grid has.
-    pub fn join(&mut self, row: usize, other: &Grid, other_row: usize) {
+    pub(crate) fn join(&mut self, row: usize, other: &Grid, other_row: usize) {
         for column in 0..self.width {
             if other.has(other_row, column) {
                 self.put(row, column);
@@ -37,7 +37,7 @@ impl Grid {
     }
 
     // Puts into a row all that another row has.
-    pub fn join_own(&mut self, row: usize, other_row: usize) {
+    pub(crate) fn join_own(&mut self, row: usize, other_row: usize) {
         for column in 0..self.width {
             if self.has(other_row, column) {
                 self.put(row, column);

@@ -1,7 +1,7 @@
 // Expressions as lists of nodes in postfix order: what a node is made of stands before it, and the last node is the whole.
 
 #[derive(Clone, Copy)]
-pub enum Node {
+pub(crate) enum Node {
     Empty,
     // any one symbol whose code is from the first to the second
     Leaf(u32, u32),

@@ -29,7 +29,7 @@ const NUMBER: [Node; 13] = [
 
 impl Twin {
     // A new reader over the number book.
-    pub fn numbers(heap: Global, edition: u32) -> Result<Twin, AllocError> {
+    pub(crate) fn numbers(heap: Global, edition: u32) -> Result<Twin, AllocError> {
         let mut twin = Twin::new(heap, Style::Expressions(255), edition);
         let nodes = Vec::from_slice(heap, &NUMBER)?;
         twin.rules.push(Rule {

@@ -5,7 +5,7 @@ use crate::second::node::Node;
 use std::alloc::{AllocError, Global};
 
 // The grids of all nodes, over a text of these codes.
-pub fn parts(heap: Global, nodes: &[Node], text: &[u32]) -> Result<Vec<Grid>, AllocError> {
+pub(crate) fn parts(heap: Global, nodes: &[Node], text: &[u32]) -> Result<Vec<Grid>, AllocError> {
     let mut done = Vec::with_capacity(heap, nodes.len())?;
     for node in nodes {
         let grid = node_parts(heap, *node, &done, text)?;

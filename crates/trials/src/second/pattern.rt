@@ -21,9 +21,9 @@ struct Choice {
 
 // What a pattern text stands for.
 #[derive(Drop)]
-pub struct Pattern {
-    pub nodes: Vec<Node>,
-    pub commands: Vec<u8>,
+pub(crate) struct Pattern {
+    pub(crate) nodes: Vec<Node>,
+    pub(crate) commands: Vec<u8>,
 }
 
 #[derive(Drop)]
@@ -47,7 +47,10 @@ fn choice_of(open: usize) -> Choice {
 }
 
 // What the text stands for.
-pub fn read_pattern(heap: Global, text: &[u8]) -> Result<Result<Pattern, Fault>, AllocError> {
+pub(crate) fn read_pattern(
+    heap: Global,
+    text: &[u8],
+) -> Result<Result<Pattern, Fault>, AllocError> {
     if text.len() > 256 {
         return Ok(Err(Fault {
             number: 17,

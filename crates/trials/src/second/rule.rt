@@ -9,18 +9,18 @@ const SPAN: u64 = 65536;
 
 // What a rule means: an expression, or a template.
 #[derive(Drop)]
-pub enum Meaning {
+pub(crate) enum Meaning {
     Expression(Vec<Node>),
     Template(Vec<u8>),
 }
 
 // A rule in force. Its leaves are named by which rule it was of all that ever came into force, and by their number in it.
 #[derive(Drop)]
-pub struct Rule {
-    pub number: u32,
-    pub kind: u32,
-    pub generation: u64,
-    pub meaning: Meaning,
+pub(crate) struct Rule {
+    pub(crate) number: u32,
+    pub(crate) kind: u32,
+    pub(crate) generation: u64,
+    pub(crate) meaning: Meaning,
 }
 
 impl Rule {
@@ -32,7 +32,7 @@ impl Rule {
     }
 
     // The name of the rule's end.
-    pub fn end(&self) -> u64 {
+    pub(crate) fn end(&self) -> u64 {
         match &self.meaning {
             Meaning::Expression(nodes) => self.name(nodes.len()),
             Meaning::Template(bytes) => self.name(bytes.len()),
@@ -40,12 +40,12 @@ impl Rule {
     }
 
     // Whether a name is one of this rule's.
-    pub fn owns(&self, name: u64) -> bool {
+    pub(crate) fn owns(&self, name: u64) -> bool {
         name / SPAN == self.generation
     }
 
     // How many positions it needs.
-    pub fn positions(&self) -> usize {
+    pub(crate) fn positions(&self) -> usize {
         match &self.meaning {
             Meaning::Expression(nodes) => nodes
                 .iter()
@@ -57,7 +57,7 @@ impl Rule {
     }
 
     // Puts into the state behind each place of a text what can come next of this rule.
-    pub fn come(
+    pub(crate) fn come(
         &self,
         heap: Global,
         text: &[u32],

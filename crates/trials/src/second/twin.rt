@@ -7,7 +7,7 @@ const MOST: usize = 512;
 
 // What the book's rules are.
 #[derive(Clone, Copy)]
-pub enum Style {
+pub(crate) enum Style {
     // expressions over codes up to the last one
     Expressions(u32),
     Templates,
@@ -15,36 +15,36 @@ pub enum Style {
 
 // A state and a code that a step was worked out from.
 #[derive(Drop)]
-pub struct Pair {
+pub(crate) struct Pair {
     state: Vec<u64>,
     code: u32,
 }
 
 #[derive(Drop)]
-pub struct Twin {
-    pub heap: Global,
-    pub style: Style,
+pub(crate) struct Twin {
+    pub(crate) heap: Global,
+    pub(crate) style: Style,
     // in the order in which they came into force, so that names in a state rise
-    pub rules: Vec<Rule>,
-    pub kept: Vec<Pair>,
+    pub(crate) rules: Vec<Rule>,
+    pub(crate) kept: Vec<Pair>,
     // how many rules ever came into force
-    pub generations: u64,
-    pub edition: u32,
-    pub tally: u32,
-    pub note: u32,
+    pub(crate) generations: u64,
+    pub(crate) edition: u32,
+    pub(crate) tally: u32,
+    pub(crate) note: u32,
     // how many pairs were met and not kept, as `MOST` were
-    pub crowded: u64,
+    pub(crate) crowded: u64,
 }
 
 impl Pair {
     // Whether the state holds a name of this rule's.
-    pub fn names_of(&self, rule: &Rule) -> bool {
+    pub(crate) fn names_of(&self, rule: &Rule) -> bool {
         self.state.iter().any(|name| rule.owns(*name))
     }
 }
 
 impl Twin {
-    pub fn new(heap: Global, style: Style, edition: u32) -> Twin {
+    pub(crate) fn new(heap: Global, style: Style, edition: u32) -> Twin {
         Twin {
             heap,
             style,
@@ -59,12 +59,12 @@ impl Twin {
     }
 
     // The rule in force of this number.
-    pub fn rule(&self, number: u32) -> Option<&Rule> {
+    pub(crate) fn rule(&self, number: u32) -> Option<&Rule> {
         self.rules.iter().find(|rule| rule.number == number)
     }
 
     // The states from the text's beginning to its end: the names of what can come next, or of the ends that it can be.
-    pub fn states(&self, text: &[u32]) -> Result<Vec<Vec<u64>>, AllocError> {
+    pub(crate) fn states(&self, text: &[u32]) -> Result<Vec<Vec<u64>>, AllocError> {
         let mut states = Vec::new(self.heap);
         for _ in 0..=text.len() {
             states.push(Vec::new(self.heap))?;
@@ -76,7 +76,7 @@ impl Twin {
     }
 
     // The rules that a state ends, by powers of two.
-    pub fn ended(&self, state: &Vec<u64>) -> u64 {
+    pub(crate) fn ended(&self, state: &Vec<u64>) -> u64 {
         let mut rules = 0;
         for rule in &self.rules {
             if state.contains(&rule.end()) {
@@ -87,7 +87,7 @@ impl Twin {
     }
 
     // Meets a pair of a state and a code: whether its step is worked out.
-    pub fn meet(&mut self, state: &Vec<u64>, code: u32) -> Result<bool, AllocError> {
+    pub(crate) fn meet(&mut self, state: &Vec<u64>, code: u32) -> Result<bool, AllocError> {
         if state.is_empty() || self.keeps(state, code) {
             return Ok(false);
         }
@@ -107,7 +107,11 @@ impl Twin {
     }
 
     // Meets the pairs of a text in turn, with the states before its codes: how many steps are worked out.
-    pub fn meet_all(&mut self, states: &Vec<Vec<u64>>, text: &[u32]) -> Result<u64, AllocError> {
+    pub(crate) fn meet_all(
+        &mut self,
+        states: &Vec<Vec<u64>>,
+        text: &[u32],
+    ) -> Result<u64, AllocError> {
         let mut count: u64 = 0;
         for (state, code) in states.iter().zip(text) {
             if self.meet(state, *code)? {

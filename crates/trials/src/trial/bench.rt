@@ -11,18 +11,18 @@ use std::alloc::{AllocError, Global};
 use std::collections::VecDeque;
 
 #[derive(Drop)]
-pub struct Bench {
-    pub random: Random,
-    pub report: Report,
-    pub subject: Subject,
-    pub plan: Plan,
+pub(crate) struct Bench {
+    pub(crate) random: Random,
+    pub(crate) report: Report,
+    pub(crate) subject: Subject,
+    pub(crate) plan: Plan,
     // texts that were drawn in this history
-    pub texts: Vec<Vec<u32>>,
+    pub(crate) texts: Vec<Vec<u32>>,
 }
 
 impl Bench {
     // Turns to another subject, with a plan of its own.
-    pub fn turn_to(&mut self, heap: Global, subject: Subject) -> Result<(), AllocError> {
+    pub(crate) fn turn_to(&mut self, heap: Global, subject: Subject) -> Result<(), AllocError> {
         self.subject = subject;
         self.texts.clear();
         self.plan = Plan::new(heap, &mut self.random, subject)?;
@@ -32,16 +32,16 @@ impl Bench {
 
 // A walk by both scanners, and the text that it most often goes along.
 #[derive(Drop)]
-pub struct Pair {
-    pub walk: Walk,
-    pub path: Path,
-    pub text: Vec<u32>,
+pub(crate) struct Pair {
+    pub(crate) walk: Walk,
+    pub(crate) path: Path,
+    pub(crate) text: Vec<u32>,
 }
 
 // A reader by both scanners, and the walks that are open.
 #[derive(Drop)]
-pub struct Trial<B: Book> {
-    pub reader: Reader<B>,
-    pub twin: Twin,
-    pub walks: VecDeque<Pair>,
+pub(crate) struct Trial<B: Book> {
+    pub(crate) reader: Reader<B>,
+    pub(crate) twin: Twin,
+    pub(crate) walks: VecDeque<Pair>,
 }

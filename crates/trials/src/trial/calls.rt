@@ -13,7 +13,7 @@ use std::alloc::{AllocError, Global};
 use symbols::Symbol;
 
 // A random call that changes no rule, and then what both tell.
-pub fn call<B: Noted>(
+pub(crate) fn call<B: Noted>(
     trial: &mut Trial<B>,
     bench: &mut Bench,
     cursor: &mut Cursor<'_, B::Symbol>,
@@ -35,7 +35,7 @@ where
 }
 
 // The symbols of these codes.
-pub fn symbols<S: Coded>(heap: Global, codes: &[u32]) -> Result<Vec<S>, AllocError> {
+pub(crate) fn symbols<S: Coded>(heap: Global, codes: &[u32]) -> Result<Vec<S>, AllocError> {
     let mut text = Vec::new(heap);
     for code in codes {
         if let Some(symbol) = S::of(*code) {

@@ -10,7 +10,10 @@ use books::ChangingBook;
 use std::alloc::AllocError;
 
 // An adding, more often, or a deletion. Most numbers are of the plan's.
-pub fn change<B: ChangingBook>(trial: &mut Trial<B>, bench: &mut Bench) -> Result<(), AllocError> {
+pub(crate) fn change<B: ChangingBook>(
+    trial: &mut Trial<B>,
+    bench: &mut Bench,
+) -> Result<(), AllocError> {
     let random = &mut bench.random;
     let number = match random.below(16) {
         0 => random.word_below(200),
@@ -53,7 +56,7 @@ fn add<B: ChangingBook>(
 }
 
 // Adds a rule by its bytes, and answers whether it is in force then.
-pub fn add_bytes<B: ChangingBook>(
+pub(crate) fn add_bytes<B: ChangingBook>(
     trial: &mut Trial<B>,
     bench: &mut Bench,
     number: u32,

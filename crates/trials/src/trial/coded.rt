@@ -2,7 +2,7 @@
 use symbols::{Event, Symbol};
 
 // A kind of symbol that is made of a code.
-pub trait Coded: Symbol {
+pub(crate) trait Coded: Symbol {
     // The symbol of the code, if there is one.
     fn of(code: u32) -> Option<Self>;
 }

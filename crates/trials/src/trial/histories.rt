@@ -13,7 +13,7 @@ use std::alloc::AllocError;
 use std::collections::VecDeque;
 
 // A history over a book that can be changed. Changes come between calls at one cursor, too.
-pub fn changing<B: ChangingBook + Noted + Drop>(
+pub(crate) fn changing<B: ChangingBook + Noted + Drop>(
     bench: &mut Bench,
     book: B,
     twin: Twin,
@@ -44,7 +44,7 @@ where
 
 // A history over a book that can only be read. Some walks are begun by a reader over another book that means the same, with the
 // same edition or the next.
-pub fn reading<B: Noted + Drop>(
+pub(crate) fn reading<B: Noted + Drop>(
     bench: &mut Bench,
     book: B,
     other: B,

@@ -8,7 +8,7 @@ use std::alloc::AllocError;
 use symbols::{Event, Symbol};
 
 // Compares the code of an event, or why there is none.
-pub fn event(bench: &mut Bench) -> Result<(), AllocError> {
+pub(crate) fn event(bench: &mut Bench) -> Result<(), AllocError> {
     let machine = number(bench, 16);
     let kind = number(bench, 4096);
     let first = match Event::new(machine, kind) {

@@ -2,7 +2,7 @@
 
 // A kind of book that is tried.
 #[derive(Clone, Copy)]
-pub enum Subject {
+pub(crate) enum Subject {
     Bytes,
     Events,
     Templates,
@@ -10,7 +10,7 @@ pub enum Subject {
     Patterns,
 }
 
-pub const SUBJECTS: [&str; 5] = [
+pub(crate) const SUBJECTS: [&str; 5] = [
     "expressions over bytes",
     "expressions over events",
     "templates",
@@ -20,7 +20,7 @@ pub const SUBJECTS: [&str; 5] = [
 
 // A kind of answer.
 #[derive(Clone, Copy)]
-pub enum Call {
+pub(crate) enum Call {
     Add,
     Delete,
     Read,
@@ -39,18 +39,18 @@ pub enum Call {
     Buffer,
 }
 
-pub const CALLS: [&str; 16] = [
+pub(crate) const CALLS: [&str; 16] = [
     "add", "delete", "read", "token", "peek", "place", "last", "feed", "finish", "kind", "edition",
     "tally", "note", "event", "pattern", "buffer",
 ];
 
 impl Subject {
-    pub fn name(self) -> &'static str {
+    pub(crate) fn name(self) -> &'static str {
         SUBJECTS.get(self as usize).copied().unwrap_or("")
     }
 
     // The last code of its symbols.
-    pub fn last(self) -> u32 {
+    pub(crate) fn last(self) -> u32 {
         match self {
             Subject::Events => 65535,
             _ => 255,
@@ -59,7 +59,7 @@ impl Subject {
 }
 
 impl Call {
-    pub fn name(self) -> &'static str {
+    pub(crate) fn name(self) -> &'static str {
         CALLS.get(self as usize).copied().unwrap_or("")
     }
 }

@@ -18,7 +18,7 @@ const UNTOUCHED: u8 = 7;
 const LONG: usize = 2000;
 
 // Reads a random pattern text into a buffer, and where it stands for commands adds the rule.
-pub fn add_pattern<B: ChangingBook>(
+pub(crate) fn add_pattern<B: ChangingBook>(
     trial: &mut Trial<B>,
     bench: &mut Bench,
     number: u32,

@@ -4,7 +4,11 @@ use crate::trial::plan::Plan;
 use std::alloc::{AllocError, Global};
 
 // A pattern text, most often a good one.
-pub fn pattern_text(heap: Global, random: &mut Random, plan: &Plan) -> Result<Vec<u8>, AllocError> {
+pub(crate) fn pattern_text(
+    heap: Global,
+    random: &mut Random,
+    plan: &Plan,
+) -> Result<Vec<u8>, AllocError> {
     let deep = random.once_in(30);
     let pieces = match random.below(30) {
         _ if deep => 40,

@@ -4,27 +4,31 @@ use crate::trial::names::Subject;
 use std::alloc::{AllocError, Global};
 
 #[derive(Drop)]
-pub struct Plan {
+pub(crate) struct Plan {
     // the codes of most symbols
-    pub alphabet: Vec<u32>,
+    pub(crate) alphabet: Vec<u32>,
     // the last code
-    pub last: u32,
+    pub(crate) last: u32,
     // whether symbols may be of any code, so that there are many steps to keep
-    pub any: bool,
+    pub(crate) any: bool,
     // most rules have numbers below this
-    pub numbers: u32,
+    pub(crate) numbers: u32,
     // before a few calls there is a change once in so many times
-    pub changes: usize,
+    pub(crate) changes: usize,
     // how many symbols most rules have at most
-    pub leaves: usize,
-    pub rounds: usize,
+    pub(crate) leaves: usize,
+    pub(crate) rounds: usize,
     // the first edition
-    pub edition: u32,
+    pub(crate) edition: u32,
 }
 
 impl Plan {
     // A random plan.
-    pub fn new(heap: Global, random: &mut Random, subject: Subject) -> Result<Plan, AllocError> {
+    pub(crate) fn new(
+        heap: Global,
+        random: &mut Random,
+        subject: Subject,
+    ) -> Result<Plan, AllocError> {
         let any = random.once_in(12);
         Ok(Plan {
             alphabet: alphabet(heap, random, subject)?,
@@ -39,7 +43,7 @@ impl Plan {
     }
 
     // A code of the alphabet, or any code, where the plan says so.
-    pub fn code(&self, random: &mut Random) -> u32 {
+    pub(crate) fn code(&self, random: &mut Random) -> u32 {
         if self.any {
             random.word() & self.last
         } else {

@@ -13,7 +13,7 @@ const SHOWN: u64 = 20;
 
 // By subject, and within it by call or by the refusal's number.
 #[derive(Drop)]
-pub struct Report {
+pub(crate) struct Report {
     compared: Vec<u64>,
     differing: Vec<u64>,
     refusals: Vec<u64>,
@@ -52,7 +52,7 @@ fn total(counts: &Vec<u64>) -> u64 {
 }
 
 impl Report {
-    pub fn new(heap: Global) -> Result<Report, AllocError> {
+    pub(crate) fn new(heap: Global) -> Result<Report, AllocError> {
         let subjects = SUBJECTS.len();
         let calls = subjects.saturating_mul(CALLS.len());
         Ok(Report {
@@ -69,7 +69,7 @@ impl Report {
     }
 
     // Compares the answers of the library and of the second scanner.
-    pub fn compare(
+    pub(crate) fn compare(
         &mut self,
         subject: Subject,
         call: Call,
@@ -119,13 +119,13 @@ impl Report {
     }
 
     // Counts the steps of a history.
-    pub fn count_steps(&mut self, subject: Subject, twin: &Twin) {
+    pub(crate) fn count_steps(&mut self, subject: Subject, twin: &Twin) {
         raise(&mut self.steps, subject as usize, u64::from(twin.tally));
         raise(&mut self.crowded, subject as usize, twin.crowded);
     }
 
     // Prints all of it.
-    pub fn print(&self, rt: &impl Print) -> io::Result<()> {
+    pub(crate) fn print(&self, rt: &impl Print) -> io::Result<()> {
         for (at, subject) in SUBJECTS.iter().enumerate() {
             println!(rt; "\n{subject}")?;
             self.print_calls(rt, at)?;

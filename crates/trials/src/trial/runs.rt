@@ -4,7 +4,7 @@ use crate::trial::plan::Plan;
 use std::alloc::{AllocError, Global};
 
 // A run, most often a good one of few symbols, else of many, or a damaged one.
-pub fn run(heap: Global, random: &mut Random, plan: &Plan) -> Result<Vec<u8>, AllocError> {
+pub(crate) fn run(heap: Global, random: &mut Random, plan: &Plan) -> Result<Vec<u8>, AllocError> {
     match random.below(40) {
         0 => {
             let leaves = random.below(300).saturating_add(20);
@@ -31,7 +31,7 @@ fn long(heap: Global, random: &mut Random, plan: &Plan) -> Result<Vec<u8>, Alloc
 }
 
 // A run of exactly so many symbols, joined, or either of them.
-pub fn filling(
+pub(crate) fn filling(
     heap: Global,
     random: &mut Random,
     plan: &Plan,

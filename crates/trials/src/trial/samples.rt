@@ -9,7 +9,7 @@ use std::alloc::{AllocError, Global};
 const LONGEST: usize = 24;
 
 // A text that the rule means, if it is not cut.
-pub fn sample(
+pub(crate) fn sample(
     heap: Global,
     random: &mut Random,
     plan: &Plan,

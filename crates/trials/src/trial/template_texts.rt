@@ -4,7 +4,7 @@ use crate::trial::plan::Plan;
 use std::alloc::{AllocError, Global};
 
 // A template, most often a short one, at times of no byte or of too many.
-pub fn template_text(
+pub(crate) fn template_text(
     heap: Global,
     random: &mut Random,
     plan: &Plan,

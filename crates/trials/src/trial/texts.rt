@@ -13,7 +13,7 @@ const LONGEST: usize = 20;
 const REMEMBERED: usize = 50;
 
 // A new text, or one of those of this history before it.
-pub fn text(bench: &mut Bench, twin: &Twin) -> Result<Vec<u32>, AllocError> {
+pub(crate) fn text(bench: &mut Bench, twin: &Twin) -> Result<Vec<u32>, AllocError> {
     let known = bench.texts.len();
     let at = bench.random.below(known);
     if let Some(old) = bench.texts.get(at)

@@ -5,7 +5,7 @@ use reader::Token;
 use states::Rules;
 
 // The sum of the powers of two that are the rules' numbers'.
-pub fn rules(met: Rules) -> u64 {
+pub(crate) fn rules(met: Rules) -> u64 {
     let mut sum = 0;
     for rule in met.members() {
         sum |= 1u64.wrapping_shl(u32::from(rule));
@@ -13,7 +13,7 @@ pub fn rules(met: Rules) -> u64 {
     sum
 }
 
-pub fn told(told: Told) -> Answer {
+pub(crate) fn told(told: Told) -> Answer {
     Answer::Refused {
         number: u64::from(told.number),
         layer: u64::from(told.layer),
@@ -22,18 +22,18 @@ pub fn told(told: Told) -> Answer {
     }
 }
 
-pub fn refused(refusal: Refusal) -> Answer {
+pub(crate) fn refused(refusal: Refusal) -> Answer {
     told(refusal.tell())
 }
 
-pub fn read(answer: reader::Answer) -> Answer {
+pub(crate) fn read(answer: reader::Answer) -> Answer {
     Answer::Read {
         rules: rules(answer.rules),
         count: answer.count as u64,
     }
 }
 
-pub fn token(answer: Result<Token, Refusal>) -> Answer {
+pub(crate) fn token(answer: Result<Token, Refusal>) -> Answer {
     match answer {
         Ok(token) => Answer::Token {
             place: token.place as u64,
@@ -45,7 +45,7 @@ pub fn token(answer: Result<Token, Refusal>) -> Answer {
     }
 }
 
-pub fn changed(answer: Result<u32, Refusal>) -> Answer {
+pub(crate) fn changed(answer: Result<u32, Refusal>) -> Answer {
     match answer {
         Ok(edition) => Answer::Number(u64::from(edition)),
         Err(refusal) => refused(refusal),

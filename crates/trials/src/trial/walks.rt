@@ -17,14 +17,14 @@ const OPEN: usize = 3;
 const LONGEST: usize = 20;
 
 // Begins a walk.
-pub fn begin<B: Book>(trial: &mut Trial<B>, bench: &mut Bench) -> Result<(), AllocError> {
+pub(crate) fn begin<B: Book>(trial: &mut Trial<B>, bench: &mut Bench) -> Result<(), AllocError> {
     let walk = trial.reader.begin();
     let path = trial.twin.begin();
     open(trial, bench, walk, path)
 }
 
 // Begins a walk by another reader over a book of the same meaning.
-pub fn begin_by<B: Book>(
+pub(crate) fn begin_by<B: Book>(
     other: &Reader<B>,
     trial: &mut Trial<B>,
     bench: &mut Bench,
@@ -51,7 +51,7 @@ fn open<B: Book>(
 }
 
 // Feeds a walk, and puts it behind the others.
-pub fn feed<B: Book>(trial: &mut Trial<B>, bench: &mut Bench) -> Result<(), AllocError>
+pub(crate) fn feed<B: Book>(trial: &mut Trial<B>, bench: &mut Bench) -> Result<(), AllocError>
 where
     B::Symbol: Coded,
 {
@@ -85,7 +85,7 @@ where
 }
 
 // Finishes a walk. One that is handed back is open again.
-pub fn finish<B: Book>(trial: &mut Trial<B>, bench: &mut Bench) -> Result<(), AllocError> {
+pub(crate) fn finish<B: Book>(trial: &mut Trial<B>, bench: &mut Bench) -> Result<(), AllocError> {
     let Some(pair) = trial.walks.pop_front() else {
         return Ok(());
     };
