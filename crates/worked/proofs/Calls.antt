@@ -79,7 +79,7 @@ reading_line {x} {t} {n} {v} {w} {m} {edition} {K} t' D at within one new room r
 
 -- ---- changes
 
--- The rule was added, and the reader is at a book that means n.
+-- The rule was added, and the reader is over the book that this made.
 pub record AddedAt (m : Meaning) (edition : ℕ) (K : List Pair) (r kind : ℕ) (rules : Expressions) (k : ℕ) (t : Told) (c : ℕ) (w : View) : Type 0 where
   pub tells : t ≡ changed (edition + 1)
   pub count : c ≡ 0
@@ -117,7 +117,7 @@ adding_line {t} {c} {v} {w} {rules = rules} {k} r kind bytes e at has passed rea
       }
     ]
 
--- The rule was deleted, and the reader is at a book that means n.
+-- The rule was deleted, and the reader is over the book that this made.
 pub record DeletedAt (m : Meaning) (edition : ℕ) (K : List Pair) (r : ℕ) (rules : Expressions) (t : Told) (c : ℕ) (w : View) : Type 0 where
   pub tells : t ≡ changed (edition + 1)
   pub count : c ≡ 0
