@@ -6,7 +6,7 @@ mod rules;
 mod shown;
 
 pub use answers::{
-    changed, cursor, edition, fed, finished, kind, last, malformed, new_reader, note,
-    pattern, read, refused, tally, token, walk,
+    changed, cursor, edition, fed, finished, kind, last, malformed, new_reader, note, pattern,
+    read, refused, tally, token, walk,
 };
 pub use shown::Shown;

@@ -16,10 +16,15 @@ answered line first rest parts w is (Err x) h =
 
 pub returns-in_err-word : goal.returns-in_err-word
 returns-in_err-word c =
-    err_by _ _ c.in_err-word.field-0.0 c.from_residual.result c.from_residual.ensures.1
-    (subst (Misspells c.args.line.now) (sym c.in_err-word.ensures.0) (inl (refl, λ w rest e.
-        let f = first_word {C = Unit {0}} (λ _ _ _. Unit {0}) _ _ _ c.part.ensures tt (w, rest, e, tt) in
-        c.in_err-word.ensures.1 f.0 f.1)), λ k h. let f = first_word Makes _ _ _ c.part.ensures k h in c.in_err-word.ensures.1 f.0 f.1)
+    err_by _ _ c.in_err-word.field-0.0 c.from_residual.result c.from_residual.ensures.1 (
+      subst (Misspells c.args.line.now) (sym c.in_err-word.ensures.0) (inl (
+        refl,
+        λ w rest e.
+            let f = first_word {C = Unit {0}} (λ _ _ _. Unit {0}) _ _ _ c.part.ensures tt (w, rest, e, tt) in
+            c.in_err-word.ensures.1 f.0 f.1,
+      )),
+      λ k h. let f = first_word Makes _ _ _ c.part.ensures k h in c.in_err-word.ensures.1 f.0 f.1,
+    )
 
 pub returns : goal.returns
 returns c = answered _ _ _ c.part.ensures c.in_ok-word.word c.in_ok-word.ensures c.with_arguments.result c.with_arguments.ensures

@@ -24,18 +24,21 @@ headed whole text first rest e parts b more h =
 pub returns-in_err-book : goal.returns-in_err-book
 returns-in_err-book c =
     let whole : behind c.args.self ≡ Some c.in_ok-text.text.now = search rules in
-    err_by _ _ c.in_err-book.field-0.0 c.from_residual-in_err-book.result c.from_residual-in_err-book.ensures.1
-    (subst (ExpectsNew (behind c.args.self)) (sym c.in_err-book.ensures.0)
-        (inl (refl, λ b more e. c.in_err-book.ensures.1 b (headed _ _ _ _ whole c.part.ensures b more e))), λ k h. c.in_err-book.ensures.1 h.0 (named _ _ _ _ whole c.part.ensures h.0 h.2 h.4).0)
+    err_by _ _ c.in_err-book.field-0.0 c.from_residual-in_err-book.result c.from_residual-in_err-book.ensures.1 (
+      subst (ExpectsNew (behind c.args.self)) (sym c.in_err-book.ensures.0)
+          (inl (refl, λ b more e. c.in_err-book.ensures.1 b (headed _ _ _ _ whole c.part.ensures b more e))),
+      λ k h. c.in_err-book.ensures.1 h.0 (named _ _ _ _ whole c.part.ensures h.0 h.2 h.4).0,
+    )
 
 pub returns-in_err-edition : goal.returns-in_err-edition
 returns-in_err-edition c =
     let whole : behind c.args.self ≡ Some c.in_ok-text.text.now = search rules in
     let rest = option_map (λ x. x.now) c.part.result.rest in
     let digits : rest ≡ Some c.in_ok-digits.digits.now = search rules in
-    err_by _ _ c.in_err-edition.field-0.0 c.from_residual-in_err-edition.result c.from_residual-in_err-edition.ensures.1
-    (subst (ExpectsNew (behind c.args.self)) (sym c.in_err-edition.ensures.0)
-        (inr (refl, c.in_ok-book.book, rest, whole ∙ ap Some (parts_joined _ _ _ c.part.ensures ∙ ap (λ f. joined f rest) c.in_ok-book.ensures))),
-    λ k h. let s = named _ _ _ _ whole c.part.ensures h.0 h.2 h.4 in
-        let same : h.2 ≡ c.in_ok-digits.digits.now = cc (s.1, digits) in
-        c.in_err-edition.ensures.1 h.1 (subst (λ d. Number32 d h.1) same h.5))
+    err_by _ _ c.in_err-edition.field-0.0 c.from_residual-in_err-edition.result c.from_residual-in_err-edition.ensures.1 (
+      subst (ExpectsNew (behind c.args.self)) (sym c.in_err-edition.ensures.0)
+          (inr (refl, c.in_ok-book.book, rest, whole ∙ ap Some (parts_joined _ _ _ c.part.ensures ∙ ap (λ f. joined f rest) c.in_ok-book.ensures))),
+      λ k h. let s = named _ _ _ _ whole c.part.ensures h.0 h.2 h.4 in
+          let same : h.2 ≡ c.in_ok-digits.digits.now = cc (s.1, digits) in
+          c.in_err-edition.ensures.1 h.1 (subst (λ d. Number32 d h.1) same h.5),
+    )

@@ -31,7 +31,7 @@ loop-reports-preserved g c =
       writes_on (at c.args.self.now) (at c.loop-reports.self) (at c.run.new.self) (out c.args.out.now) (out c.loop-reports.out) (out c.write_all.new.self)
           (err c.args.errors.now) (err c.loop-reports.errors) (err c.write_all-in-loop-reports.new.self) (string_bytes c.loop-reports.answers) (string_bytes c.run.new.out)
           (string_bytes c.loop-reports.reports) (string_bytes c.run.new.errors) h.1 h.2 h.0
-    (appends_goes (at c.loop-reports.self) (at c.run.new.self) (string_bytes c.loop-reports.answers) (string_bytes c.run.new.out) (string_bytes c.loop-reports.reports) (string_bytes c.run.new.errors) c.in_ok-more.ensures.goes) wrote told,
+          (appends_goes (at c.loop-reports.self) (at c.run.new.self) (string_bytes c.loop-reports.answers) (string_bytes c.run.new.out) (string_bytes c.loop-reports.reports) (string_bytes c.run.new.errors) c.in_ok-more.ensures.goes) wrote told,
       search rules,
       search rules,
     )
