@@ -6,8 +6,7 @@ use lib.Count.{ones, count_trailing_zeros}
 use Rattle.std.specs.List.{list_all}
 use Rattle.std.specs.Cmp.Lexicographic.{pointwise, bytes_decides}
 use Rattle.std.proofs.Props.{props}
-use Rattle.std.proofs.lemmas.List.{get_or_past, get_or-replicate, get_or-set_same, get_or-set_other, length-set, length-replicate}
-use Rattle.std.proofs.lemmas.Nat.{one_shl}
+use Rattle.std.proofs.lemmas.List.{get_or_past, get_or-set_same, get_or-set_other, length-set}
 use lib.ListN.{set, replicate}
 use Rattle.std.proofs.lemmas.Grind.{same_number_lists}
 use Rattle.std.proofs.lemmas.Bool.{cases_lt, cases_eq, cases_Bool, both_ways, and_parts, and_from, and_left, and_right, eqb-true, eq-eqb, ne_eqb, lt-ltb, le-ltb}
@@ -140,21 +139,6 @@ has_single {n} s at is p = elim (cases_lt p (64 * n)) [
       | inl e ↦ ap (λ (t : Bool). bit (cond t (2 ^ (at % 64)) 0) (p % 64)) (eq-eqb _ _ e) ∙ bit_single (at % 64) (p % 64) ∙ same_place p at e
       | inr e ↦ ap (λ (t : Bool). bit (cond t (2 ^ (at % 64)) 0) (p % 64)) (ne_eqb _ _ e) ∙ bit_zero (p % 64) ∙ sym (ne_eqb p at (λ g. e (ap (λ (x : ℕ). x / 64) g)))
     ]
-
--- the one word that is written, where there is one
-pub single_inside : {n : ℕ} (s : Set n) (at k : ℕ) → k ≡ at / 64 → k < n → s.words ≡ set (replicate n 0) k (1 * 2 ^ (at % 64) % 2 ^ 64)
-    → (p : ℕ) → has s p ≡ (eqb p at && ltb p (64 * n))
-single_inside {n} s at k e l is = has_single s at (λ j b. ap (λ (ws : List ℕ). get_or ws j 0) is ∙ (elim (cases_eq j k) [
-  | inl h ↦ (let r : k < length (replicate n 0) = rw length-replicate l in
-      ap (λ (x : ℕ). get_or (set (replicate n 0) k (1 * 2 ^ (at % 64) % 2 ^ 64)) x 0) h ∙ get_or-set_same (replicate n 0) k _ 0 r ∙ one_shl (at % 64) 64 (omega arith)
-      ∙ ap (λ (t : Bool). cond t (2 ^ (at % 64)) 0) (sym (eq-eqb j (at / 64) (h ∙ e))))
-  | inr h ↦ get_or-set_other (replicate n 0) k j _ 0 h ∙ get_or-replicate n j 0 0 b
-      ∙ ap (λ (t : Bool). cond t (2 ^ (at % 64)) 0) (sym (ne_eqb j (at / 64) (λ g. h (g ∙ sym e))))
-]))
-
-pub single_outside : {n : ℕ} (s : Set n) (at k : ℕ) → k ≡ at / 64 → n ≤ k → s.words ≡ replicate n 0 → (p : ℕ) → has s p ≡ (eqb p at && ltb p (64 * n))
-single_outside {n} s at k e l is p =
-    has_none s (λ j b. ap (λ (ws : List ℕ). get_or ws j 0) is ∙ get_or-replicate n j 0 0 b) p ∙ sym (alone_above (64 * n) at p (omega arith))
 
 pub alone : {n : ℕ} (s : Set n) (at : ℕ) → at < 64 * n → ((p : ℕ) → has s p ≡ (eqb p at && ltb p (64 * n))) → (p : ℕ) → has s p ≡ eqb p at
 alone {n} s at l is p = is p ∙ alone_below (64 * n) at p l

@@ -30,12 +30,12 @@ where
         ensures within { (p : ℕ) → has result p ≡ (p == at && nat_lt p (64 * WORDS)) }
         ensures alone { at < 64 * WORDS → (p : ℕ) → has result p ≡ (p == at) }
     {
-        let mut words = [0; WORDS];
+        // each word by itself: one written at an index known only as it runs would lie in memory, and each reader of the set would wait for it
         let k = usize::from(at / 64);
-        if k < WORDS {
-            words[k] = 1 << (at % 64);
+        let word = 1 << (at % 64);
+        Set {
+            words: array::from_fn(|i| if i == k { word } else { 0 }),
         }
-        Set { words }
     }
 
     pub fn with(self, at: u8) -> Self
