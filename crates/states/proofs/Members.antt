@@ -10,11 +10,11 @@ use Rattle.std.proofs.lemmas.List.{get_or_past, get_or-set_same, get_or-set_othe
 use lib.ListN.{set, replicate}
 use Rattle.std.proofs.lemmas.Grind.{same_number_lists}
 use Rattle.std.proofs.lemmas.Bool.{cases_lt, cases_eq, cases_Bool, both_ways, and_parts, and_from, and_left, and_right, eqb-true, eq-eqb, ne_eqb, lt-ltb, le-ltb}
-use Rattle.std.proofs.lemmas.Bool.Decides.{Decides-below_or}
+use Rattle.std.proofs.lemmas.Bool.Decides.{Decides-below_or, same_from_decides}
 use Rattle.std.proofs.Math.Bool.{and-false, and-true}
 use Rattle.states.specs.declared.set.Set.{Set}
 use Rattle.states.specs.Sets.{State, Rules, has, words_of, with_members, set_of, rules_of, same, is_empty, nothing, shares}
-use Rattle.states.specs.Words.{bit, tally, some, Least}
+use Rattle.states.specs.Words.{bit, tally, some, Least, Gathers}
 use Rattle.states.proofs.Digits.{bit_ext, bit_above, bit_zero, bit_ones, bit_single, bit_digits_of, bit_or_digit, bit_mod, bit_first, bit_half, lowest_digit, ones_tally, tally_same}
 
 -- ---- one number, if it is below k
@@ -358,6 +358,10 @@ is_made {n} s f h = same_members s (with_members n f) (λ p l. h p l ∙ sym (ha
 
 pub is_set_of : (s : State) (f : ℕ → Bool) → ((p : ℕ) → p < 256 → has s p ≡ f p) → s ≡ set_of f
 is_set_of s f h = is_made s f h
+
+-- the union of the sets T p over the members p of s
+pub gathers_set : (T : ℕ → ℕ → Bool) (s r : State) → Gathers T (has s) (has r) → r ≡ set_of (λ q. some (λ p. has s p && T p q) 256)
+gathers_set T s r g = is_set_of r _ (λ q l. same_from_decides (has r q) _ (g q) (some_member s (λ p. T p q)))
 
 pub is_rules_of : (s : Rules) (f : ℕ → Bool) → ((p : ℕ) → p < 64 → has s p ≡ f p) → s ≡ rules_of f
 is_rules_of s f h = is_made s f h
