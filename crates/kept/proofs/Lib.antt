@@ -1,3 +1,4 @@
 pub mod Found
+pub mod Keeps
 mod Zipped
 pub mod Tables
