@@ -1,6 +1,4 @@
 // Decimal numbers of 32 bits.
-ghost use Rattle.std.specs.Prelude.{Decides};
-ghost use Rattle.std.specs.Str.Parse.{IsNumeral};
 ghost use Rattle.lines.specs.Numerals.{Reads};
 
 // Why bytes are no decimal number of 32 bits.
@@ -16,17 +14,16 @@ pub enum NoDecimal {
 pub fn decimal(digits: &[u8]) -> Result<u32, NoDecimal>
     ensures { Reads digits.now result }
 {
-    // `parse` alone would take a sign, and tells a number that is too large before a later byte that is no digit
-    if !is_numeral(digits) {
+    if digits.is_empty() {
         return Err(NoDecimal::NoDigits);
     }
-    let text = std::str::from_utf8(digits).map_err(|_| NoDecimal::NoDigits)?;
-    text.parse::<u32>().map_err(|_| NoDecimal::TooLarge)
-}
-
-// Whether the bytes are decimal digits, at least one.
-fn is_numeral(digits: &[u8]) -> bool
-    ensures { Decides result (IsNumeral 10 digits.now) }
-{
-    !digits.is_empty() && digits.iter().all(|digit| digit.is_ascii_digit())
+    // what is above the last number stays above it
+    let value = digits
+        .iter()
+        .try_fold(0u64, |value, byte| {
+            let digit = char::from(*byte).to_digit(10)?;
+            Some(value.saturating_mul(10).saturating_add(u64::from(digit)))
+        })
+        .ok_or(NoDecimal::NoDigits)?;
+    u32::try_from(value).map_err(|_| NoDecimal::TooLarge)
 }
