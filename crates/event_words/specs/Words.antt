@@ -49,10 +49,3 @@ Spells text (Err NoMemory) = Unit {0}
 -- what a name that was read says
 abbrev pub named : Name → Named
 named n = record { machine = n.machine; kind = n.kind }
-
--- what reading the machine and the kind of each word of a text answers
-abbrev pub NamesWords : List ℕ → Result (Vec Name Global) NoEvents → Type 0
-NamesWords text (Ok v) = NamesEach (words text) (map named (vec_items v))
-NamesWords text (Err Malformed) = (ns : List Named) → NamesEach (words text) ns → ⊥
-NamesWords text (Err OutOfRange) = ⊥
-NamesWords text (Err NoMemory) = Unit {0}

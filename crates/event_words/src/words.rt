@@ -1,6 +1,6 @@
 // Events as words of a text.
 ghost use Rattle.std.specs.Prelude.{◌≡◌, MatchOption};
-ghost use Rattle.event_words.specs.Words.{Named, Names, NamesWords, Spells, named};
+ghost use Rattle.event_words.specs.Words.{Named, Names, Spells, named};
 ghost use Rattle.event_words.specs.declared.words.NoEvents.TheVariants.{NoMemory, OutOfRange};
 
 use lines::{Parted, SPACE, part, saturated};
@@ -43,30 +43,24 @@ struct Name {
 }
 
 // The events that the words of a text name. A malformed word is told before a machine or a kind out of range, wherever
-// they stand, so that all words are read before the first event is made.
+// they stand, so that what is out of range is told behind the last word.
 pub fn events_of(heap: Global, text: &[u8]) -> Result<Vec<Event>, NoEvents>
     ensures { Spells text.now result }
 {
-    let names = names_of(heap, text)?;
     let mut events = Vec::new(heap);
-    for name in &names {
-        events.push(Event::new(name.machine, name.kind)?)?;
-    }
-    Ok(events)
-}
-
-// The machine and the kind of each word.
-fn names_of(heap: Global, text: &[u8]) -> Result<Vec<Name>, NoEvents>
-    ensures { NamesWords text.now result }
-{
-    let mut names = Vec::new(heap);
     if text.is_empty() {
-        return Ok(names);
+        return Ok(events);
     }
+    let mut in_range = Ok(());
     for word in text.split(|byte| *byte == SPACE) {
-        names.push(name_of(word).ok_or(NoEvents::Malformed)?)?;
+        let name = name_of(word).ok_or(NoEvents::Malformed)?;
+        match Event::new(name.machine, name.kind) {
+            Err(refused) => in_range = Err(refused),
+            Ok(event) => events.push(event)?,
+        }
     }
-    Ok(names)
+    in_range?;
+    Ok(events)
 }
 
 // The machine and the kind that a word names, if it names them.
