@@ -88,8 +88,13 @@ pub fn walk(out: &mut String, edition: u32) -> Result<(), AllocError>
 pub fn fed(out: &mut String, worked: bool) -> Result<(), AllocError>
     ensures { Writes result out.old out.new (feed_line worked) }
 {
-    let worked = if worked { "yes" } else { "no" };
-    writeln!(out, "feed worked={worked}")
+    // the whole line at once, since there is one for each symbol
+    let line = if worked {
+        "feed worked=yes\n"
+    } else {
+        "feed worked=no\n"
+    };
+    out.push_str(line)
 }
 
 // The rules that a finished walk ended, and their kinds.
