@@ -33,9 +33,10 @@ impl Kept {
         ensures { result ≡ found (steps self.now) state code }
     {
         // The index is what the lists share: over a `zip` of them a search in a full table takes 0.53 microseconds instead of 0.36.
+        let moves = self.moves.as_slice();
         for (i, kept) in self.codes.iter().enumerate() {
-            if *kept == code && self.moves[i].state == state {
-                return Some(self.moves[i].next);
+            if *kept == code && moves[i].state == state {
+                return Some(moves[i].next);
             }
         }
         None
